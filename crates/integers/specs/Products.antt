@@ -1,0 +1,55 @@
+-- Products and absolute values: what the order says of them, each by a certificate.
+use mathlib.Core.Path.{_≡_, refl, sym, subst}
+use mathlib.Core.List.{List, [], _∷_}
+use mathlib.Core.Logic.{_⊎_, inl, inr, ⊎-elim}
+use Prim.Native.Nat.{ℕ, suc}
+use native.Mathlib.Omega.{arith}
+use lib.IntN.{ℤ, pos, negsuc, negℤ, natAbs, _+ℤ_, _*ℤ_, _-ℤ_}
+use lib.Signed.{_≤ℤ_, _<ℤ_}
+use Rattle.integers.specs.Order.{_⩽_, _⋖_, gap, gap<, gap1, ungap, 0⩽sq, 0⋖*, ⋖→⩽, 0⋖+, 0⩽pos, absℤ, lt-or-ge, drop⩽}
+use Rattle.integers.specs.Linear.{int}
+use Rattle.integers.specs.Ring.{ring, reify}
+use Rattle.integers.specs.Certificates.{_⊕_, _⊗_, by⩽, by⋖, by0⋖, by⩽/}
+
+pub *-mono : (x y k : ℤ) → pos 0 ⩽ k → x ⩽ y → x *ℤ k ⩽ y *ℤ k
+*-mono x y k p h = by⩽ (x ∷ y ∷ k ∷ []) (gap h ⊗ p) (search reify depth 12) refl
+
+pub *-mono< : (x y k : ℤ) → pos 0 ⋖ k → x ⋖ y → x *ℤ k ⋖ y *ℤ k
+*-mono< x y k p h = by0⋖ (x ∷ y ∷ k ∷ []) (0⋖* (gap< h) p) (search reify depth 12) refl
+
+-- a positive factor is dropped from both sides
+pub *-cancel : (x y k : ℤ) → pos 0 ⋖ k → x *ℤ k ⩽ y *ℤ k → x ⩽ y
+*-cancel x y k p h = by⩽/ (x ∷ y ∷ k ∷ []) p (gap h) (search reify depth 12) refl
+
+pub *-cancel< : (x y k : ℤ) → pos 0 ⋖ k → x *ℤ k ⋖ y *ℤ k → x ⋖ y
+*-cancel< x y k p h = ⊎-elim (λ l. l) (λ (g : y ⩽ x). let q : y *ℤ k ⩽ x *ℤ k = *-mono y x k (⋖→⩽ p) g in absurd (omega int)) (lt-or-ge x y)
+
+-- − L |d| ≤ u d ≤ L |d|, where − L ≤ u ≤ L
+low⁺ : (L u D : ℤ) → pos 0 ⩽ D → negℤ L ⩽ u → negℤ L *ℤ D ⩽ u *ℤ D
+low⁺ L u D p h = by⩽ (L ∷ u ∷ D ∷ []) (gap h ⊗ p) (search reify depth 12) refl
+
+low⁻ : (L u D : ℤ) → pos 0 ⩽ D → u ⩽ L → negℤ L *ℤ D ⩽ u *ℤ negℤ D
+low⁻ L u D p h = by⩽ (L ∷ u ∷ D ∷ []) (gap h ⊗ p) (search reify depth 12) refl
+
+pub low : (L u d : ℤ) → negℤ L ⩽ u → u ⩽ L → negℤ L *ℤ absℤ d ⩽ u *ℤ d
+low L u (pos n) h k = low⁺ L u (pos n) (0⩽pos n) h
+low L u (negsuc n) h k = low⁻ L u (pos (suc n)) (0⩽pos (suc n)) k
+
+high⁺ : (L u D : ℤ) → pos 0 ⩽ D → u ⩽ L → u *ℤ D ⩽ L *ℤ D
+high⁺ L u D p h = by⩽ (L ∷ u ∷ D ∷ []) (gap h ⊗ p) (search reify depth 12) refl
+
+high⁻ : (L u D : ℤ) → pos 0 ⩽ D → negℤ L ⩽ u → u *ℤ negℤ D ⩽ L *ℤ D
+high⁻ L u D p h = by⩽ (L ∷ u ∷ D ∷ []) (gap h ⊗ p) (search reify depth 12) refl
+
+pub high : (L u d : ℤ) → negℤ L ⩽ u → u ⩽ L → u *ℤ d ⩽ L *ℤ absℤ d
+high L u (pos n) h k = high⁺ L u (pos n) (0⩽pos n) k
+high L u (negsuc n) h k = high⁻ L u (pos (suc n)) (0⩽pos (suc n)) h
+
+-- x < y, x = y or y < x
+pub tri : (x y : ℤ) → (x ⋖ y) ⊎ ((x ≡ y) ⊎ (y ⋖ x))
+tri x y = ⊎-elim inl (λ (g : y ⩽ x). inr (⊎-elim (λ (l : y ⋖ x). inr l) (λ (l : x ⩽ y). inl (omega int)) (lt-or-ge y x))) (lt-or-ge x y)
+
+-- strict cross products are transitive
+pub cross-trans : (t1 n1 t2 n2 t3 n3 : ℤ) → pos 0 ⋖ n1 → pos 0 ⋖ n2 → pos 0 ⋖ n3 → t1 *ℤ n2 ⋖ t2 *ℤ n1 → t2 *ℤ n3 ⩽ t3 *ℤ n2 → t1 *ℤ n3 ⋖ t3 *ℤ n1
+cross-trans t1 n1 t2 n2 t3 n3 p1 p2 p3 h k =
+    *-cancel< (t1 *ℤ n3) (t3 *ℤ n1) n2 p2 (by0⋖ (t1 ∷ n1 ∷ t2 ∷ n2 ∷ t3 ∷ n3 ∷ []) (0⋖+ (0⋖* (gap< h) p3) (gap k ⊗ ⋖→⩽ p1)) (search reify depth 20) refl)
