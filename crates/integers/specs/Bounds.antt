@@ -9,12 +9,10 @@ use Prim.Native.Nat.{ℕ, suc, _+_, _*_, _^_, _≤_}
 use native.Mathlib.Omega.{arith}
 use native.Mathlib.Nat.{mul-le-mul-left, mul-le-mul-right, le-trans}
 use lib.Dec.{T, ltb, ltb→lt}
-use mathlib.Core.List.{List}
-use lib.ListN.{getD}
-use lib.IntN.{ℤ, pos, negsuc, negℤ, natAbs, _+ℤ_, _*ℤ_, _-ℤ_}
+use lib.IntN.{ℤ, pos, negsuc, negℤ, natAbs, _+ℤ_, _*ℤ_}
 use lib.Signed.{mag, natAbs-le}
-use mir.Facts.{toZ-ofZ}
-use mir.Syntax.{Width, w64}
+use mir.Facts.{toZ-ofZ, toZ-pos}
+use mir.Syntax.{Width}
 use mir.Val.{SFits, hbits, toZ, ofZ}
 use Rattle.integers.specs.Order.{abs-+, abs-*, abs-neg}
 
@@ -83,11 +81,23 @@ cl-read w x h = record {
   ok = λ t. let u = &&-both (h .good) (ltb (h .bound) (2 ^ hbits w)) t in (read-ok w x (h .val) (h .bound) (h .ok (u .0) .0) (h .ok (u .0) .1) (u .1), h .ok (u .0) .1);
 }
 
+-- an unsigned number of at most b, cast to a signed one
+pub record Atmost (b n : ℕ) : Type 0 where
+  pub atmost : n ≤ b
+
+abbrev pub cl-cast : (w : Width) (b n : ℕ) → Atmost b n → Clean (toZ w n)
+cl-cast w b n h = record {
+  val = pos n;
+  bound = b;
+  good = ltb b (2 ^ hbits w);
+  ok = λ t. (toZ-pos w (omega (arith, h .atmost, ltb→lt b (2 ^ hbits w) t)), omega (arith, h .atmost));
+}
+
 -- a local of which no more is known than its type
 abbrev pub cl-arg : (w : Width) (x : ℤ) → SFits w x → Clean (toZ w (ofZ w x))
 cl-arg w x f = record { val = x; bound = 2 ^ hbits w; good = true; ok = λ t. (toZ-ofZ f, natAbs-le x (f .sfits)) }
 
-pub ruleset cleaning = (cl-given, cl-read, cl-pos, cl-negsuc, cl-neg, cl-add, cl-mul)
+pub ruleset cleaning = (cl-given, cl-cast, cl-read, cl-pos, cl-negsuc, cl-neg, cl-add, cl-mul)
 
 -- the same, with the types' own bounds. `search` takes the shallowest proof, so this one takes a type's bound before a smaller one that is known
 pub ruleset cleaning-by-type = (cl-arg, cleaning)

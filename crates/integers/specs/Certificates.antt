@@ -1,12 +1,11 @@
 -- Certificates for nonlinear steps: an order is shown by a sum of products of things that are not negative, and `ring` checks the identity.
 --     goal k·(y − x) = Σ (gap of a hypothesis × something not negative):
 --     by⩽/ (atoms) k-positive (gap h ⊗ ⋖→⩽ p ⊕ gap h′ ⊗ ⋖→⩽ p′) (search reify depth 20) refl
-use mathlib.Core.Path.{_≡_, refl, sym, _∙_, ap, subst}
-use mathlib.Core.List.{List, [], _∷_}
-use lib.IntN.{ℤ, pos, negsuc, negℤ, _+ℤ_, _*ℤ_, _-ℤ_}
-use lib.Signed.{_≤ℤ_, _<ℤ_}
+use mathlib.Core.Path.{_≡_, subst}
+use mathlib.Core.List.{List}
+use lib.IntN.{ℤ, pos, _+ℤ_, _*ℤ_, _-ℤ_}
 use Rattle.integers.specs.Order.{_⩽_, _⋖_, ungap, ungap<, ungap1, drop⩽, 0⩽+, 0⩽*}
-use Rattle.integers.specs.Ring.{Re, norm, none, ring, reify}
+use Rattle.integers.specs.Ring.{Re, norm, none, ring}
 
 infixl 6 _⊕_
 pub _⊕_ : {x y : ℤ} → pos 0 ⩽ x → pos 0 ⩽ y → pos 0 ⩽ x +ℤ y

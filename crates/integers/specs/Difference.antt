@@ -7,9 +7,9 @@ use mathlib.Core.Logic.{_↔_}
 use mathlib.Core.Bool.{Bool, true, false, not, cond}
 use Prim.Native.Nat.{ℕ, zero, suc, _+_, _*_, _-_, _<_, _≤_}
 use native.Mathlib.Omega.{arith}
-use lib.Dec.{T, ltb, ltb→lt, lt→ltb, leb, leb→le, le→leb, nltb→le}
-use lib.IntN.{ℤ, natAbs, pos, negsuc, negℤ, subℕ, _+ℤ_, _*ℤ_, _-ℤ_, pos-ne-negsuc}
-use lib.Signed.{mag, _≤ℤ_, _<ℤ_, leZ, ltZ, leZ-yes, ltZ-yes}
+use lib.Dec.{T, ltb, ltb→lt, lt→ltb, leb→le, le→leb, nltb→le}
+use lib.IntN.{ℤ, natAbs, pos, negsuc, negℤ, subℕ, _+ℤ_, _*ℤ_, pos-ne-negsuc}
+use lib.Signed.{mag, _≤ℤ_, _<ℤ_, leZ-yes, ltZ-yes}
 
 -- binds tighter than the order, which is at 50 (and the order tighter than `+ℤ`, at 6)
 infixl 60 _⊖_

@@ -1,15 +1,15 @@
 -- How a step is written, one checked example of each kind: the manual of this crate.
 use mathlib.Core.Path.{_≡_, refl}
 use mathlib.Core.Bool.{true}
-use mathlib.Core.List.{List, [], _∷_}
+use mathlib.Core.List.{[], _∷_}
 use native.Mathlib.Omega.{arith}
-use Prim.Native.Nat.{ℕ, _+_, _≤_}
+use Prim.Native.Nat.{_+_, _≤_}
 use lib.IntN.{ℤ, pos, negℤ, natAbs, _+ℤ_, _*ℤ_, _-ℤ_}
 use lib.Signed.{ltZ}
 use mir.Syntax.{w64}
 use mir.Val.{SFits, toZ, ofZ}
 use Rattle.integers.specs.Difference.{natify, by2}
-use Rattle.integers.specs.Order.{_⩽_, _⋖_, gap, gap<, gap1, ⋖→⩽, 0⩽sq, 0⩽pos, 0⋖*, 0⋖+}
+use Rattle.integers.specs.Order.{_⩽_, _⋖_, gap, gap1, ⋖→⩽, 0⩽sq}
 use Rattle.integers.specs.Ring.{ring, reify}
 use Rattle.integers.specs.Linear.{int, sum, size, lin, expand}
 use Rattle.integers.specs.Certificates.{_⊕_, _⊗_, by⩽, by⋖, by⩽/}

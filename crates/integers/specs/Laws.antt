@@ -1,9 +1,8 @@
 -- The laws of the ring ℤ that the kit's lib.IntN lacks. `ring` (Ring.antt) proves any identity; these are what it is made of.
-use mathlib.Core.Path.{_≡_, refl, sym, _∙_, ap, subst}
-use Prim.Native.Nat.{ℕ, zero, suc, _+_, _*_}
+use mathlib.Core.Path.{_≡_, sym, _∙_, ap}
 use native.Mathlib.Omega.{arith}
 use lib.IntN.{ℤ, pos, negsuc, negℤ, _+ℤ_, _*ℤ_, _-ℤ_}
-use Rattle.integers.specs.Difference.{natify, by1, by2, by3, by4}
+use Rattle.integers.specs.Difference.{natify, by1, by2, by3}
 
 pub *ℤ-assoc : (x y z : ℤ) → x *ℤ y *ℤ z ≡ x *ℤ (y *ℤ z)
 *ℤ-assoc = by3 _ (λ a b c d e f. simp natify (omega arith))

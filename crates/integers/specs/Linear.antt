@@ -4,18 +4,17 @@
 -- Of an integer x, `up x` and `dn x` are the naturals with x = up x − dn x, one of them 0; `omega` takes them for unknowns. The rules of
 -- `int` read an order or an equation of integers, a test's outcome and that a number fits, and turn a goal of that kind. `omega` applies
 -- to a hypothesis the first rule that fits, so each kind has one.
-use mathlib.Core.Path.{_≡_, refl, sym, _∙_, ap, ap₂, subst, subst₂}
-use mathlib.Core.Bool.{Bool, true, false, not}
-use mathlib.Core.List.{List, [], _∷_}
-use Prim.Native.Nat.{ℕ, zero, suc, _+_, _*_, _-_, _<_, _≤_, min}
+use mathlib.Core.Path.{_≡_, refl, sym, _∙_, ap, ap₂, subst₂}
+use mathlib.Core.Bool.{true, false}
+use mathlib.Core.List.{List}
+use Prim.Native.Nat.{ℕ, zero, suc, _+_, _*_, _<_, _≤_, min}
 use native.Mathlib.Omega.{arith}
-use lib.Dec.{T}
 use lib.IntN.{ℤ, pos, negsuc, negℤ, natAbs, _+ℤ_, _*ℤ_, _-ℤ_}
 use lib.Signed.{_≤ℤ_, _<ℤ_, leZ, ltZ}
 use mir.Syntax.{Width}
 use mir.Val.{SFits, toZ, ofZ}
 use mir.Facts.{toZ-ofZ}
-use Rattle.integers.specs.Difference.{_⊖_, ⊖-le, le-⊖, ⊖-lt, lt-⊖, ⊖-eq, eq-⊖, pos-is, negsuc-is, ⊖-add, ⊖-neg, ⊖-mul}
+use Rattle.integers.specs.Difference.{_⊖_, ⊖-le, le-⊖, ⊖-lt, lt-⊖, ⊖-eq, eq-⊖, pos-is, negsuc-is, ⊖-add, ⊖-mul}
 use Rattle.integers.specs.Ring.{At, here, there}
 use Rattle.integers.specs.Order.{lt-true, lt-false, le-true, le-false}
 

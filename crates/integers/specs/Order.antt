@@ -1,15 +1,14 @@
 -- The order of ℤ. `x ⩽ y` and `x ⋖ y` are the kit's `x ≤ℤ y` and `x <ℤ y` at a fixity below the sum's: x +ℤ y ⩽ z *ℤ w needs no brackets.
 -- A step that is linear is `omega int` (Linear.antt); one with products is a certificate (Certificates.antt), made of the gaps below.
-use mathlib.Core.Path.{_≡_, refl, sym, _∙_, ap, subst}
+use mathlib.Core.Path.{_≡_, refl, sym, subst}
 use mathlib.Core.Bool.{Bool, true, false, not, true≢false}
 use mathlib.Core.Logic.{_⊎_, inl, inr}
-use Prim.Native.Nat.{ℕ, zero, suc, _+_, _*_, _-_, _<_, _≤_}
+use Prim.Native.Nat.{ℕ, zero, suc, _+_, _*_, _<_, _≤_}
 use native.Mathlib.Omega.{arith}
-use native.Mathlib.Nat.{mul-le-mul-left, mul-le-mul-right}
-use lib.Dec.{T, nleb→lt, le→leb, lt→ltb, ltb→lt, leb→le, lit<}
+use lib.Dec.{T, nleb→lt, le→leb, lt→ltb}
 use lib.IntN.{ℤ, pos, negsuc, negℤ, natAbs, _+ℤ_, _*ℤ_, _-ℤ_}
-use lib.Signed.{_≤ℤ_, _<ℤ_, leZ, ltZ, leZ-yes, ltZ-yes, ltZ-no, mag}
-use Rattle.integers.specs.Difference.{_⊖_, natify, by1, by2, by3, by4}
+use lib.Signed.{_≤ℤ_, _<ℤ_, leZ, ltZ, leZ-yes, ltZ-yes, ltZ-no}
+use Rattle.integers.specs.Difference.{natify, by1, by2, by3, by4}
 
 infix 5 _⩽_ _⋖_
 abbrev pub _⩽_ : ℤ → ℤ → Type 0

@@ -1,15 +1,13 @@
 -- Products and absolute values: what the order says of them, each by a certificate.
-use mathlib.Core.Path.{_≡_, refl, sym, subst}
-use mathlib.Core.List.{List, [], _∷_}
+use mathlib.Core.Path.{_≡_, refl}
+use mathlib.Core.List.{[], _∷_}
 use mathlib.Core.Logic.{_⊎_, inl, inr, ⊎-elim}
-use Prim.Native.Nat.{ℕ, suc}
-use native.Mathlib.Omega.{arith}
-use lib.IntN.{ℤ, pos, negsuc, negℤ, natAbs, _+ℤ_, _*ℤ_, _-ℤ_}
-use lib.Signed.{_≤ℤ_, _<ℤ_}
-use Rattle.integers.specs.Order.{_⩽_, _⋖_, gap, gap<, gap1, ungap, 0⩽sq, 0⋖*, ⋖→⩽, 0⋖+, 0⩽pos, absℤ, lt-or-ge, drop⩽}
+use Prim.Native.Nat.{suc}
+use lib.IntN.{ℤ, pos, negsuc, negℤ, _*ℤ_}
+use Rattle.integers.specs.Order.{_⩽_, _⋖_, gap, gap<, 0⋖*, ⋖→⩽, 0⋖+, 0⩽pos, absℤ, lt-or-ge}
 use Rattle.integers.specs.Linear.{int}
-use Rattle.integers.specs.Ring.{ring, reify}
-use Rattle.integers.specs.Certificates.{_⊕_, _⊗_, by⩽, by⋖, by0⋖, by⩽/}
+use Rattle.integers.specs.Ring.{reify}
+use Rattle.integers.specs.Certificates.{_⊗_, by⩽, by0⋖, by⩽/}
 
 pub *-mono : (x y k : ℤ) → pos 0 ⩽ k → x ⩽ y → x *ℤ k ⩽ y *ℤ k
 *-mono x y k p h = by⩽ (x ∷ y ∷ k ∷ []) (gap h ⊗ p) (search reify depth 12) refl

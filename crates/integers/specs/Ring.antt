@@ -1,12 +1,11 @@
 -- A ring solver for ℤ, by reflection: an identity is checked by computing one normal form. The atoms first, then `search reify`, then `refl`:
 --     square x y = ring (x ∷ y ∷ []) (search reify depth 20) refl
 -- With eight atoms or more: search reify depth 40 fits 20000. State such a lemma over variables of ℤ and cite it at terms.
-use mathlib.Core.Path.{_≡_, refl, sym, _∙_, ap, ap₂, subst}
-use mathlib.Core.Bool.{Bool, true, false}
+use mathlib.Core.Path.{_≡_, refl, sym, _∙_, ap, ap₂}
 use mathlib.Core.List.{List, [], _∷_}
 use Prim.Native.Nat.{ℕ, zero, suc, compare, Ordering, Ordering·lt, Ordering·eq, Ordering·gt}
 use lib.Dec.{T, isEq, eqb→eq}
-use lib.IntN.{ℤ, pos, negsuc, negℤ, _+ℤ_, _*ℤ_, _-ℤ_, +ℤ-idl, +ℤ-idr, +ℤ-assoc, *ℤ-comm, zero-*ℤ, *ℤ-zero}
+use lib.IntN.{ℤ, pos, negsuc, negℤ, _+ℤ_, _*ℤ_, _-ℤ_, +ℤ-idl, +ℤ-idr, +ℤ-assoc, zero-*ℤ, *ℤ-zero}
 use Rattle.integers.specs.Laws.{*ℤ-assoc, *ℤ-left-comm, +ℤ-left-comm, *ℤ-+ℤ, +ℤ-*ℤ, *ℤ-mul-mul, one-*ℤ, *ℤ-1, minus-one-*ℤ, sub-zero-eq}
 
 pub data Ex : Type 0 where

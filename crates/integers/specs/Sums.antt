@@ -1,14 +1,12 @@
 -- Sums of lists of integers: by one element more, of a concatenation, scaled, and bounded.
 use mathlib.Core.Path.{_≡_, refl, sym, _∙_, ap}
 use mathlib.Core.List.{List, [], _∷_, _++_, map}
-use Prim.Native.Nat.{ℕ, zero, suc, _+_, _*_, _<_, _≤_}
+use Prim.Native.Nat.{ℕ, zero, suc, _*_, _≤_}
 use native.Mathlib.Omega.{arith}
-use native.Mathlib.Nat.{mul-le-mul-right}
-use lib.ListN.{length, getD, take}
-use lib.IntN.{ℤ, pos, natAbs, _+ℤ_, _*ℤ_, _-ℤ_, *ℤ-zero, +ℤ-idl, +ℤ-idr, +ℤ-assoc}
-use Rattle.integers.specs.Order.{abs-+, +-mono}
+use lib.ListN.{getD, take}
+use lib.IntN.{ℤ, pos, natAbs, _+ℤ_, _*ℤ_, *ℤ-zero, +ℤ-idl, +ℤ-idr, +ℤ-assoc}
+use Rattle.integers.specs.Order.{abs-+}
 use Rattle.integers.specs.Ring.{ring, reify}
-use lib.Signed.{_≤ℤ_, ≤ℤ-refl}
 use Rattle.integers.specs.Bounds.{Upto}
 
 unfoldable pub sumZ : List ℤ → ℤ

@@ -1,0 +1,8 @@
+-- What the proofs of `level` rest on, and the laws of its definitions.
+pub mod Valid
+pub mod Divide
+pub mod Closest
+pub mod Significand
+pub mod Nearest
+
+-- pub mod Laws
