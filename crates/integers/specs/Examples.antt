@@ -9,10 +9,10 @@ use lib.Signed.{ltZ}
 use mir.Syntax.{w64}
 use mir.Val.{SFits, toZ, ofZ}
 use Rattle.integers.specs.Difference.{natify, by2}
-use Rattle.integers.specs.Order.{_⩽_, _⋖_, gap, gap1, ⋖→⩽, 0⩽sq}
+use Rattle.integers.specs.Order.{_⩽_, _⋖_, gap, gap1, 0⩽sq}
 use Rattle.integers.specs.Ring.{ring, reify}
 use Rattle.integers.specs.Linear.{int, sum, size, lin, expand}
-use Rattle.integers.specs.Certificates.{_⊕_, _⊗_, by⩽, by⋖, by⩽/}
+use Rattle.integers.specs.Certificates.{_⊕_, by⩽, by⋖, by⩽/}
 use Rattle.integers.specs.Bounds.{Upto, cleaning, fit, clean}
 
 -- ---- identities: the atoms, then `search reify`, then `refl`
@@ -52,9 +52,9 @@ certified x y z w h k = by⋖ (x ∷ y ∷ z ∷ w ∷ []) (gap h ⊕ gap1 k) (s
 means : (x y : ℤ) → pos 2 *ℤ x *ℤ y ⩽ x *ℤ x +ℤ y *ℤ y
 means x y = by⩽ (x ∷ y ∷ []) (0⩽sq (x -ℤ y)) (search reify depth 20) refl
 
--- the order of fractions, by cross products, is transitive: multiplied by the middle one's divisor
-fractions : (t₁ n₁ t₂ n₂ t₃ n₃ : ℤ) → pos 0 ⋖ n₁ → pos 0 ⋖ n₂ → pos 0 ⋖ n₃ → t₁ *ℤ n₂ ⩽ t₂ *ℤ n₁ → t₂ *ℤ n₃ ⩽ t₃ *ℤ n₂ → t₁ *ℤ n₃ ⩽ t₃ *ℤ n₁
-fractions t₁ n₁ t₂ n₂ t₃ n₃ p₁ p₂ p₃ h k = by⩽/ (t₁ ∷ n₁ ∷ t₂ ∷ n₂ ∷ t₃ ∷ n₃ ∷ []) p₂ (gap h ⊗ ⋖→⩽ p₃ ⊕ gap k ⊗ ⋖→⩽ p₁) (search reify depth 20) refl
+-- a positive factor is dropped: the certificate is of k (y − x)
+cancelled : (x y k : ℤ) → pos 0 ⋖ k → k *ℤ x ⩽ k *ℤ y → x ⩽ y
+cancelled x y k p h = by⩽/ (x ∷ y ∷ k ∷ []) p (gap h) (search reify depth 20) refl
 
 -- ---- nothing wraps: a product of bounded numbers fits 64 bits, and reads back as it is
 fits : (t n : ℤ) → Upto 1099511627776 t → Upto 65536 n → SFits w64 (t *ℤ n)

@@ -5,7 +5,7 @@
 -- `int` read an order or an equation of integers, a test's outcome and that a number fits, and turn a goal of that kind. `omega` applies
 -- to a hypothesis the first rule that fits, so each kind has one.
 use mathlib.Core.Path.{_≡_, refl, sym, _∙_, ap, ap₂, subst₂}
-use mathlib.Core.Bool.{true, false}
+use mathlib.Core.Bool.{Bool, true, false}
 use mathlib.Core.List.{List}
 use Prim.Native.Nat.{ℕ, zero, suc, _+_, _*_, _<_, _≤_, min}
 use native.Mathlib.Omega.{arith}
@@ -65,6 +65,21 @@ pub fit-nat : (w : Width) (z : ℤ) → SFits w z → up (toZ w (ofZ w z)) + dn 
 fit-nat w z f = eq-nat (toZ w (ofZ w z)) z (toZ-ofZ f)
 
 pub ruleset int = (arith, le-nat, lt-nat, eq-nat, nat-le, nat-lt, nat-eq, took-lt, left-lt, took-le, left-le, fit-nat)
+
+-- the outcome of a test, from an order
+pub lt-yes : {x y : ℤ} → x <ℤ y → ltZ x y ≡ true
+lt-yes {x} {y} h = go (ltZ x y) refl
+  where
+    go : (b : Bool) → ltZ x y ≡ b → b ≡ true
+    go true e = refl
+    go false e = absurd (omega int)
+
+pub lt-no : {x y : ℤ} → y ≤ℤ x → ltZ x y ≡ false
+lt-no {x} {y} h = go (ltZ x y) refl
+  where
+    go : (b : Bool) → ltZ x y ≡ b → b ≡ false
+    go true e = absurd (omega int)
+    go false e = refl
 
 -- the parts of a sum, a difference and an opposite, and |x|
 pub sum : (x y : ℤ) → up (x +ℤ y) + (dn x + dn y) ≡ (up x + up y) + dn (x +ℤ y)

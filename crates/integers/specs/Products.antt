@@ -4,10 +4,10 @@ use mathlib.Core.List.{[], _∷_}
 use mathlib.Core.Logic.{_⊎_, inl, inr, ⊎-elim}
 use Prim.Native.Nat.{suc}
 use lib.IntN.{ℤ, pos, negsuc, negℤ, _*ℤ_}
-use Rattle.integers.specs.Order.{_⩽_, _⋖_, gap, gap<, 0⋖*, ⋖→⩽, 0⋖+, 0⩽pos, absℤ, lt-or-ge}
+use Rattle.integers.specs.Order.{_⩽_, _⋖_, gap, gap<, 0⋖*, ⋖→⩽, 0⩽pos, absℤ, lt-or-ge}
 use Rattle.integers.specs.Linear.{int}
 use Rattle.integers.specs.Ring.{reify}
-use Rattle.integers.specs.Certificates.{_⊗_, by⩽, by0⋖, by⩽/}
+use Rattle.integers.specs.Certificates.{_⊕_, _⊗_, by⩽, by0⋖, by⩽/}
 
 pub *-mono : (x y k : ℤ) → pos 0 ⩽ k → x ⩽ y → x *ℤ k ⩽ y *ℤ k
 *-mono x y k p h = by⩽ (x ∷ y ∷ k ∷ []) (gap h ⊗ p) (search reify depth 12) refl
@@ -47,7 +47,6 @@ high L u (negsuc n) h k = high⁻ L u (pos (suc n)) (0⩽pos (suc n)) h
 pub tri : (x y : ℤ) → (x ⋖ y) ⊎ ((x ≡ y) ⊎ (y ⋖ x))
 tri x y = ⊎-elim inl (λ (g : y ⩽ x). inr (⊎-elim (λ (l : y ⋖ x). inr l) (λ (l : x ⩽ y). inl (omega int)) (lt-or-ge y x))) (lt-or-ge x y)
 
--- strict cross products are transitive
-pub cross-trans : (t1 n1 t2 n2 t3 n3 : ℤ) → pos 0 ⋖ n1 → pos 0 ⋖ n2 → pos 0 ⋖ n3 → t1 *ℤ n2 ⋖ t2 *ℤ n1 → t2 *ℤ n3 ⩽ t3 *ℤ n2 → t1 *ℤ n3 ⋖ t3 *ℤ n1
-cross-trans t1 n1 t2 n2 t3 n3 p1 p2 p3 h k =
-    *-cancel< (t1 *ℤ n3) (t3 *ℤ n1) n2 p2 (by0⋖ (t1 ∷ n1 ∷ t2 ∷ n2 ∷ t3 ∷ n3 ∷ []) (0⋖+ (0⋖* (gap< h) p3) (gap k ⊗ ⋖→⩽ p1)) (search reify depth 20) refl)
+-- the order of fractions t / n by cross products is transitive: multiplied by the middle one's divisor
+pub cross-trans : (t₁ n₁ t₂ n₂ t₃ n₃ : ℤ) → pos 0 ⋖ n₁ → pos 0 ⋖ n₂ → pos 0 ⋖ n₃ → t₁ *ℤ n₂ ⩽ t₂ *ℤ n₁ → t₂ *ℤ n₃ ⩽ t₃ *ℤ n₂ → t₁ *ℤ n₃ ⩽ t₃ *ℤ n₁
+cross-trans t₁ n₁ t₂ n₂ t₃ n₃ p₁ p₂ p₃ h k = by⩽/ (t₁ ∷ n₁ ∷ t₂ ∷ n₂ ∷ t₃ ∷ n₃ ∷ []) p₂ (gap h ⊗ ⋖→⩽ p₃ ⊕ gap k ⊗ ⋖→⩽ p₁) (search reify depth 20) refl

@@ -5,4 +5,5 @@ pub mod Closest
 pub mod Significand
 pub mod Nearest
 
--- pub mod Laws
+pub mod OrderLaws
+pub mod PlotLaws
