@@ -4,6 +4,5 @@ pub mod Divide
 pub mod Closest
 pub mod Significand
 pub mod Nearest
-
 pub mod OrderLaws
 pub mod PlotLaws

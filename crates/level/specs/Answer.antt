@@ -1,6 +1,7 @@
 -- What an answer says in paper 01's terms: a refusal's number and place, or the value given.
 use Prim.Native.Nat.{ℕ}
 use mathlib.Core.Bool.{Bool, true, false}
+use mathlib.Core.Option.{Option, none, some}
 use lib.IntN.{ℤ, pos, negsuc}
 use lib.Ieee.{Float}
 use Rattle.level.specs.declared.Level.{Level}
@@ -19,6 +20,11 @@ pub data Answer (A : Type 0) : Type 0 where
 abbrev pub refuse-if : {A : Type 0} → Bool → ℕ → ℕ → Answer A → Answer A
 refuse-if true number place rest = refused number place
 refuse-if false number place rest = rest
+
+-- the same with a place that a search found
+abbrev pub refuse-at : {A : Type 0} → Option ℕ → ℕ → Answer A → Answer A
+refuse-at (some place) number rest = refused number place
+refuse-at none number rest = rest
 
 abbrev pub made : Made → Answer Level
 made (Made.Valid a) = given a

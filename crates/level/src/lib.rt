@@ -15,19 +15,19 @@ pub struct Level {
 // A refusal has the paper's number and place.
 pub enum Made {
     Valid(Level),
-    Refused(u32, u32),
+    Refused(u32, usize),
 }
 
 pub enum Compared {
     Less,
     Equal,
     Greater,
-    Refused(u32, u32),
+    Refused(u32, usize),
 }
 
 pub enum Plotted {
     Value(f64),
-    Refused(u32, u32),
+    Refused(u32, usize),
 }
 
 impl Level {

@@ -1,0 +1,68 @@
+-- Text written a part at a time, on lists, and the text of a signed number by its sign.
+use mathlib.Core.Path.{_≡_, refl, ap, _∙_}
+use mathlib.Core.Bool.{true, false}
+use mathlib.Core.List.{List, [], _∷_, _++_}
+use Prim.Native.Nat.{ℕ, _+_, _/_, _%_, _≤_, _<_}
+use native.Mathlib.Omega.{arith}
+use lib.ListN.{length, set, length-append}
+use lib.IntN.{ℤ, pos, natAbs}
+use lib.Signed.{ltZ, natAbs-le}
+use mir.Syntax.{w64}
+use mir.Val.{SFits, toZ, ofZ}
+use mir.Facts.{toZ-ofZ}
+use Rattle.codec.specs.Place.{overwrite}
+use Rattle.codec.specs.PlaceLaws.{overwrite-one, overwrite-append, length-overwrite}
+use Rattle.codec.proofs.Signs.{by-negative, by-natural}
+use Rattle.text.specs.Decimal.{decimal, signedDecimal}
+use Rattle.text.specs.Laws.{one-digit, more-digits, length-more, length-decimal}
+
+-- l is s with text at at, and next is the place after the text
+abbrev pub Put : List ℕ → ℕ → List ℕ → ℕ → List ℕ → Type 0
+Put s at text next l = (next ≡ at + length text) × (l ≡ overwrite s at text)
+
+module _ (s : List ℕ) (at : ℕ) where
+  -- one character, then text
+  pub put-after : (v : ℕ) (text : List ℕ) (next : ℕ) (l : List ℕ) → Put (set s at v) (at + 1) text next l
+      → at + (1 + length text) ≤ length s → Put s at (v ∷ text) next l
+  put-after v text next l (e, f) room = (
+    omega arith,
+    f
+        ∙ ap (λ (k : List ℕ). overwrite k (at + 1) text) (overwrite-one s at v (omega arith))
+        ∙ overwrite-append s at (v ∷ []) (omega arith) text room,
+  )
+
+  -- text, then one character
+  put-before : (text : List ℕ) (next : ℕ) (l : List ℕ) (v : ℕ) → Put s at text next l → at + (length text + 1) ≤ length s
+      → Put s at (text ++ (v ∷ [])) (next + 1) (set l next v)
+  put-before text next l v (e, f) room =
+      let len : length l ≡ length s = ap length f ∙ length-overwrite s at text (omega arith) in (
+        omega (arith, length-append text (v ∷ [])),
+        overwrite-one l next v (omega arith)
+            ∙ ap (λ (p : ℕ). overwrite l p (v ∷ [])) e
+            ∙ ap (λ (k : List ℕ). overwrite k (at + length text) (v ∷ [])) f
+            ∙ overwrite-append s at text (omega arith) (v ∷ []) room,
+      )
+
+  module _ (n : ℕ) (room : at + length (decimal n) ≤ length s) where
+    pub put-one : n < 10 → Put s at (decimal n) (at + 1) (set s at (48 + n))
+    put-one h = let len = ap length (one-digit n h) in rw (one-digit n h) (refl, overwrite-one s at (48 + n) (omega arith))
+
+    pub put-more : 10 ≤ n → (next : ℕ) (l : List ℕ) → Put s at (decimal (n / 10)) next l
+        → Put s at (decimal n) (next + 1) (set l next (48 + n % 10))
+    put-more h next l done = rw (more-digits n h) (put-before (decimal (n / 10)) next l (48 + n % 10) done (omega (arith, length-more n h)))
+
+-- ---- a signed number, by the size that magnitude found and the machine's test of its sign
+module _ (x : ℤ) (f : SFits w64 x) (size : ℕ) (e : size ≡ natAbs (toZ w64 (ofZ w64 x))) where
+  size-is : size ≡ natAbs x
+  size-is = e ∙ ap natAbs (toZ-ofZ f)
+
+  pub size-room : length (decimal size) ≤ 19
+  size-room = length-decimal 18 size (omega (arith, natAbs-le x (f .sfits), size-is))
+
+  pub negative-text : ltZ (toZ w64 (ofZ w64 x)) (pos 0) ≡ true → signedDecimal x ≡ 45 ∷ decimal size
+  unfolding signedDecimal
+  negative-text t = rw size-is (by-negative w64 x f t (λ y z. signedDecimal y ≡ 45 ∷ decimal (natAbs y)) (λ k h. refl))
+
+  pub natural-text : ltZ (toZ w64 (ofZ w64 x)) (pos 0) ≡ false → signedDecimal x ≡ decimal size
+  unfolding signedDecimal
+  natural-text t = rw size-is (by-natural w64 x f t (λ y z. signedDecimal y ≡ decimal (natAbs y)) (λ k h. refl))
