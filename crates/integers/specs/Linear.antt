@@ -81,6 +81,9 @@ lt-no {x} {y} h = go (ltZ x y) refl
     go true e = absurd (omega int)
     go false e = refl
 
+pub 0⋖pos : (n : ℕ) → 0 < n → pos 0 <ℤ pos n
+0⋖pos n h = omega int
+
 -- the parts of a sum, a difference and an opposite, and |x|
 pub sum : (x y : ℤ) → up (x +ℤ y) + (dn x + dn y) ≡ (up x + up y) + dn (x +ℤ y)
 sum x y = eq-⊖ (up (x +ℤ y)) (dn (x +ℤ y)) (up x + up y) (dn x + dn y) (sym (parts (x +ℤ y)) ∙ ap₂ _+ℤ_ (parts x) (parts y) ∙ ⊖-add (up x) (dn x) (up y) (dn y))

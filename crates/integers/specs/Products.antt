@@ -4,7 +4,8 @@ use mathlib.Core.List.{[], _∷_}
 use mathlib.Core.Logic.{_⊎_, inl, inr, ⊎-elim}
 use Prim.Native.Nat.{suc}
 use lib.IntN.{ℤ, pos, negsuc, negℤ, _*ℤ_}
-use Rattle.integers.specs.Order.{_⩽_, _⋖_, gap, gap<, 0⋖*, ⋖→⩽, 0⩽pos, absℤ, lt-or-ge}
+use lib.Signed.{≤ℤ-refl}
+use Rattle.integers.specs.Order.{_⩽_, _⋖_, gap, gap<, 0⋖*, ⋖→⩽, 0⩽pos, absℤ, lt-or-ge, ⩽-antisym}
 use Rattle.integers.specs.Linear.{int}
 use Rattle.integers.specs.Ring.{reify}
 use Rattle.integers.specs.Certificates.{_⊕_, _⊗_, by⩽, by0⋖, by⩽/}
@@ -18,6 +19,9 @@ pub *-mono< : (x y k : ℤ) → pos 0 ⋖ k → x ⋖ y → x *ℤ k ⋖ y *ℤ 
 -- a positive factor is dropped from both sides
 pub *-cancel : (x y k : ℤ) → pos 0 ⋖ k → x *ℤ k ⩽ y *ℤ k → x ⩽ y
 *-cancel x y k p h = by⩽/ (x ∷ y ∷ k ∷ []) p (gap h) (search reify depth 12) refl
+
+pub *-cancel≡ : (x y k : ℤ) → pos 0 ⋖ k → x *ℤ k ≡ y *ℤ k → x ≡ y
+*-cancel≡ x y k p e = ⩽-antisym x y (*-cancel x y k p (rw e (≤ℤ-refl _))) (*-cancel y x k p (rw e (≤ℤ-refl _)))
 
 pub *-cancel< : (x y k : ℤ) → pos 0 ⋖ k → x *ℤ k ⋖ y *ℤ k → x ⋖ y
 *-cancel< x y k p h = ⊎-elim (λ l. l) (λ (g : y ⩽ x). let q : y *ℤ k ⩽ x *ℤ k = *-mono y x k (⋖→⩽ p) g in absurd (omega int)) (lt-or-ge x y)

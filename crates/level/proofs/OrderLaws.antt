@@ -4,12 +4,10 @@ use mathlib.Core.Bool.{false}
 use mathlib.Core.Logic.{_⊎_, inl, inr, ⊎-elim, _↔_}
 use Prim.Native.Nat.{_*_}
 use native.Mathlib.Omega.{arith}
-use lib.Dec.{lt→ltb}
 use lib.IntN.{ℤ, pos, negsuc, negℤ, natAbs, _-ℤ_}
-use lib.Signed.{ltZ-yes}
 use borrow.Author.Tests.{le-ltb, ne-eqb}
 use Rattle.integers.specs.Order.{_⩽_, _⋖_, ⋖→⩽}
-use Rattle.integers.specs.Linear.{int, dif, lt-yes, lt-no}
+use Rattle.integers.specs.Linear.{0⋖pos, int, dif, lt-yes, lt-no}
 use Rattle.integers.specs.Products.{tri, cross-trans}
 use Rattle.level.specs.Answer.{given}
 use Rattle.level.specs.Limits.{bad-length, bad-total, Valid}
@@ -73,10 +71,7 @@ module _ (a b : Level) (h : Valid a) (k : Valid b) where
     λ l. ⊎-elim (λ t. (negsuc 0, t .1, omega int)) (⊎-elim (λ t. (pos 0, t .1, omega int)) (λ t. let g = t .0 in absurd (omega int))) total,
   )
 
-positive : {a : Level} → Valid a → pos 0 ⋖ pos (a .length)
-positive {a} h = ltZ-yes (lt→ltb 0 (a .length) (h .some))
-
 pub transitive : (a b c : Level) (h : Valid a) (k : Valid b) (l : Valid c) → NotAbove a b h k → NotAbove b c k l → NotAbove a c h l
 transitive a b c h k l p q =
     not-above-iff a c h l .1
-    (cross-trans (a .total) (pos (a .length)) (b .total) (pos (b .length)) (c .total) (pos (c .length)) (positive h) (positive k) (positive l) (not-above-iff a b h k .0 p) (not-above-iff b c k l .0 q))
+    (cross-trans (a .total) (pos (a .length)) (b .total) (pos (b .length)) (c .total) (pos (c .length)) (0⋖pos (a .length) (h .some)) (0⋖pos (b .length) (k .some)) (0⋖pos (c .length) (l .some)) (not-above-iff a b h k .0 p) (not-above-iff b c k l .0 q))

@@ -1,12 +1,12 @@
 -- The plotted value never orders two levels the wrong way: this follows from `best` alone. And a total of 0 plots as plus zero.
-use mathlib.Core.Path.{_≡_, refl, sym, ap, ap₂, _∙_, subst, subst₂}
+use mathlib.Core.Path.{_≡_, refl, sym, ap, _∙_, subst₂}
 use mathlib.Core.Bool.{Bool, true, false, _||_}
-use mathlib.Core.Logic.{_⊎_, inl, inr, ⊎-elim}
+use mathlib.Core.Logic.{⊎-elim}
 use mathlib.Core.List.{[], _∷_}
 use Prim.Native.Nat.{ℕ, _+_, _*_, _≤_, _<_}
 use native.Mathlib.Nat.{mul-one, zero-mul, eq-or-lt-of-le}
 use native.Mathlib.Omega.{arith}
-use lib.Dec.{T, lit<, lt→ltb}
+use lib.Dec.{T, lit<}
 use lib.IntN.{ℤ, pos, negℤ, natAbs, _+ℤ_, _*ℤ_, _-ℤ_}
 use lib.Signed.{ltZ-yes}
 use lib.Ieee.{Float, nan, inf, fin, binary64, round, fits, le, lt, eq, below, level, up, down}
@@ -14,13 +14,13 @@ use lib.Ieee.Fits.{down-pos}
 use lib.Ieee.Scale.{finite, round-same}
 use borrow.Author.Tests.{lt-ltb, le-ltb, eq-eqb}
 use Rattle.integers.specs.Order.{_⩽_, _⋖_, gap, ⋖→⩽, 0⋖*, lt-or-ge, abs-*}
-use Rattle.integers.specs.Linear.{int, sum, dif, opp, size}
+use Rattle.integers.specs.Linear.{0⋖pos, int, sum, dif, opp, size}
 use Rattle.integers.specs.Certificates.{_⊕_, _⊗_, by⩽/}
 use Rattle.integers.specs.Products.{*-mono<}
 use Rattle.integers.specs.Ring.{ring, reify}
 use Rattle.level.specs.Limits.{Valid}
 use Rattle.level.specs.Order.{cross}
-use Rattle.level.specs.Plot.{nearestTo, signed, num, den, off, NearestF64}
+use Rattle.level.specs.Plot.{nearestTo, signed, num, den, NearestF64}
 use Rattle.level.specs.declared.Level.{Level}
 use Rattle.level.proofs.Nearest.{nearest-f64}
 
@@ -76,9 +76,6 @@ middles D E l₁ l₂ t₁ t₂ K p₁ p₂ k h g = by⩽/ (D ∷ E ∷ l₁ ∷
     two : pos 0 ⋖ pos 2
     two = ltZ-yes tt
 
-positive : (n : ℕ) → 0 < n → pos 0 ⋖ pos n
-positive n h = ltZ-yes (lt→ltb 0 n h)
-
 den-pos : (v : Float) → 0 < den v
 den-pos nan = lit< tt
 den-pos (inf s) = lit< tt
@@ -103,11 +100,11 @@ module _ (a b : Level) (h : Valid a) (k : Valid b) (v w : Float) (n : NearestF64
   -- where w were below v, b would not be above a
   crossed : E ⋖ D → cross b a ⩽ cross a b
   crossed l =
-      let p = positive (a .length) (h .some) in
-      let q = positive (b .length) (k .some) in
+      let p = 0⋖pos (a .length) (h .some) in
+      let q = 0⋖pos (b .length) (k .some) in
       let f : natAbs (D *ℤ pos (a .length) -ℤ a .total *ℤ K) ≤ natAbs (E *ℤ pos (a .length) -ℤ a .total *ℤ K) = subst₂ _≤_ (spread (num v) (pos (a .length)) (a .total) (den v) (den w)) (spread (num w) (pos (a .length)) (a .total) (den w) (den v) ∙ ap (λ x. natAbs (E *ℤ pos (a .length) -ℤ a .total *ℤ x)) swapped) (n .best w (m .f64) (m .real)) in
       let g : natAbs (E *ℤ pos (b .length) -ℤ b .total *ℤ K) ≤ natAbs (D *ℤ pos (b .length) -ℤ b .total *ℤ K) = subst₂ _≤_ (spread (num w) (pos (b .length)) (b .total) (den w) (den v) ∙ ap (λ x. natAbs (E *ℤ pos (b .length) -ℤ b .total *ℤ x)) swapped) (spread (num v) (pos (b .length)) (b .total) (den v) (den w)) (m .best v (n .f64) (n .real)) in
-      middles D E (pos (a .length)) (pos (b .length)) (a .total) (b .total) K p q (0⋖* (positive (den v) (den-pos v)) (positive (den w) (den-pos w)))
+      middles D E (pos (a .length)) (pos (b .length)) (a .total) (b .total) K p q (0⋖* (0⋖pos (den v) (den-pos v)) (0⋖pos (den w) (den-pos w)))
       (above-middle (D *ℤ pos (a .length)) (E *ℤ pos (a .length)) (a .total *ℤ K) (*-mono< E D (pos (a .length)) p l) f)
       (below-middle (D *ℤ pos (b .length)) (E *ℤ pos (b .length)) (b .total *ℤ K) (*-mono< E D (pos (b .length)) q l) g)
 

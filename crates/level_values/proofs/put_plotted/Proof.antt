@@ -1,7 +1,7 @@
 -- `level_values::put_plotted` is safe: an f64 that equals itself is no NaN.
 use borrow.Author.Needs.{needs}
 use mathlib.Core.Path.{_≡_, subst, sym}
-use mathlib.Core.Bool.{true, false, not}
+use mathlib.Core.Bool.{true, not}
 use lib.Dec.{T}
 use lib.Ieee.{Float, nan, inf, fin, eq, isNan}
 use Rattle.level_values.proofs.put_plotted.Statement.{statement}

@@ -1,0 +1,74 @@
+-- A line is the minimum (demand 3): over a common scale Q a candidate's cost times 2 Q² is (Q / q)² times that over q, so all that Optimum.antt
+-- says of numerators over Q is said of it.
+use mathlib.Core.Path.{_≡_, refl, sym, _∙_, ap, ap₂}
+use mathlib.Core.List.{List, [], _∷_}
+use Prim.Native.Nat.{ℕ, _/_}
+use native.Mathlib.Omega.{arith}
+use lib.ListN.{length, length-map}
+use lib.IntN.{ℤ, pos, _+ℤ_, _*ℤ_, _-ℤ_, *ℤ-zero}
+use Rattle.integers.specs.Laws.{one-*ℤ}
+use Rattle.integers.specs.Order.{_⩽_, absℤ, abs-*}
+use Rattle.integers.specs.Ring.{ring, reify}
+use Rattle.optimality.specs.Series.{Minute, Positive, plain}
+use Rattle.optimality.specs.Segments.{Segment, IsLine, numerators}
+use Rattle.optimality.specs.Cost.{misfit, variation, cost, distance}
+use Rattle.optimality.specs.Minimum.{times, Minimum, squares, PlainMinimum}
+use Rattle.optimality.specs.Scales.{quotient}
+use Rattle.optimality.specs.Verdict.{optimal}
+use Rattle.optimality.specs.Optimum.{best}
+use Rattle.optimality.specs.Plain.{plain-positive, length-plain}
+
+-- ---- a scale that is c times larger
+length-times : (c : ℤ) (ps : List ℤ) → length (times c ps) ≡ length ps
+unfolding times
+length-times c ps = length-map ps (λ (p : ℤ). c *ℤ p)
+
+misfit-times : (c q : ℤ) (ms : List Minute) (ps : List ℤ) → misfit (q *ℤ c) ms (times c ps) ≡ c *ℤ c *ℤ misfit q ms ps
+unfolding misfit times
+misfit-times c q [] ps = sym (*ℤ-zero (c *ℤ c))
+misfit-times c q (m ∷ ms) [] = sym (*ℤ-zero (c *ℤ c))
+misfit-times c q (m ∷ ms) (p ∷ ps) = rw (misfit-times c q ms ps) (go (m .weight) (m .sample) (misfit q ms ps))
+  where
+    go : (w y M : ℤ) → w *ℤ ((q *ℤ c *ℤ y -ℤ c *ℤ p) *ℤ (q *ℤ c *ℤ y -ℤ c *ℤ p)) +ℤ c *ℤ c *ℤ M ≡ c *ℤ c *ℤ (w *ℤ ((q *ℤ y -ℤ p) *ℤ (q *ℤ y -ℤ p)) +ℤ M)
+    go w y M = ring (c ∷ q ∷ p ∷ w ∷ y ∷ M ∷ []) (search reify depth 20 fits 5000) refl
+
+variation-times : (n : ℕ) (ps : List ℤ) → variation (times (pos n) ps) ≡ pos n *ℤ variation ps
+unfolding variation times
+variation-times n [] = sym (*ℤ-zero (pos n))
+variation-times n (p ∷ []) = sym (*ℤ-zero (pos n))
+variation-times n (p ∷ p′ ∷ ps) = ap₂ _+ℤ_ (ap absℤ (out (pos n)) ∙ ap pos (abs-* (pos n) (p′ -ℤ p))) (variation-times n (p′ ∷ ps)) ∙ sum (pos n) (absℤ (p′ -ℤ p)) (variation (p′ ∷ ps))
+  where
+    out : (c : ℤ) → c *ℤ p′ -ℤ c *ℤ p ≡ c *ℤ (p′ -ℤ p)
+    out c = ring (c ∷ p ∷ p′ ∷ []) (search reify depth 20) refl
+
+    sum : (c a v : ℤ) → c *ℤ a +ℤ c *ℤ v ≡ c *ℤ (a +ℤ v)
+    sum c a v = ring (c ∷ a ∷ v ∷ []) (search reify depth 20) refl
+
+cost-times : (n : ℕ) (q L : ℤ) (ms : List Minute) (ps : List ℤ) → cost (q *ℤ pos n) L ms (times (pos n) ps) ≡ pos n *ℤ pos n *ℤ cost q L ms ps
+cost-times n q L ms ps = rw (misfit-times (pos n) q ms ps, variation-times n ps) (go (pos n) (misfit q ms ps) (variation ps))
+  where
+    go : (c M T : ℤ) → c *ℤ c *ℤ M +ℤ pos 2 *ℤ L *ℤ (q *ℤ c) *ℤ (c *ℤ T) ≡ c *ℤ c *ℤ (M +ℤ pos 2 *ℤ L *ℤ q *ℤ T)
+    go c M T = ring (c ∷ q ∷ L ∷ M ∷ T ∷ []) (search reify depth 20) refl
+
+pub minimum : (L : ℤ) (ms : List Minute) (ss : List Segment) → Positive ms → pos 0 ⩽ L → IsLine L (pos 0) (pos 0) ms ss → Minimum L ms ss
+minimum L ms ss p l h q ps e Q k d z =
+    rw (← cost-times (Q / q) (pos q) L ms ps, quotient Q q k d .times) (best (pos Q) L ms (numerators Q ss) (times (pos (Q / q)) ps) p (optimal L (pos 0) (pos 0) ms ss l h Q k z) (length-times (pos (Q / q)) ps ∙ e))
+
+plain-distance : (ys zs xs : List ℤ) → length zs ≡ length ys → distance (plain ys) zs xs ≡ squares zs xs
+unfolding distance plain squares
+plain-distance [] [] xs e = refl
+plain-distance [] (z ∷ zs) xs e = absurd (omega arith)
+plain-distance (y ∷ ys) [] xs e = absurd (omega arith)
+plain-distance (y ∷ ys) (z ∷ zs) [] e = refl
+plain-distance (y ∷ ys) (z ∷ zs) (x ∷ xs) e = ap₂ _+ℤ_ (one-*ℤ ((z -ℤ x) *ℤ (z -ℤ x))) (plain-distance ys zs xs (omega arith))
+
+plain-misfit : (q : ℤ) (ys ps : List ℤ) → misfit q (plain ys) ps ≡ squares (times q ys) ps
+unfolding misfit plain squares times
+plain-misfit q [] ps = refl
+plain-misfit q (y ∷ ys) [] = refl
+plain-misfit q (y ∷ ys) (p ∷ ps) = ap₂ _+ℤ_ (one-*ℤ ((q *ℤ y -ℤ p) *ℤ (q *ℤ y -ℤ p))) (plain-misfit q ys ps)
+
+pub plain-minimum : (L : ℤ) (ys : List ℤ) (ss : List Segment) → pos 0 ⩽ L → IsLine L (pos 0) (pos 0) (plain ys) ss → PlainMinimum L ys ss
+plain-minimum L ys ss l h q ps e Q k d z =
+    rw (← plain-distance ys (times (pos (Q / q)) ps) (numerators Q ss) (length-times _ ps ∙ e), ← plain-misfit (pos q) ys ps, ← plain-misfit (pos Q) ys (numerators Q ss))
+    (minimum L (plain ys) ss (plain-positive ys) l h q ps (e ∙ sym (length-plain ys)) Q k d z)

@@ -1,0 +1,46 @@
+-- Paper 01's known lines, its rows with a star: one theorem over one table, by computing the machine.
+use mathlib.Core.Path.{_≡_, refl}
+use mathlib.Core.List.{List, [], _∷_, map}
+use Prim.Native.Nat.{ℕ}
+use lib.IntN.{ℤ, pos, negℤ, _*ℤ_}
+use Rattle.optimality.specs.Series.{plain}
+use Rattle.optimality.specs.Conditions.{dual}
+use Rattle.optimality.specs.Segments.{Segment, numerators}
+use Rattle.optimality.specs.Machine.{plain-line, step, run, line}
+
+pub record Row : Type 0 where
+  pub samples : List ℤ
+  pub smoothing : ℤ
+  pub segments : List Segment
+
+abbrev row : List ℤ → ℤ → List Segment → Row
+row ys L ss = record { samples = ys; smoothing = L; segments = ss }
+
+-- (length, total)
+abbrev seg : ℕ → ℤ → Segment
+seg len total = record { len = len; divisor = len; total = total }
+
+abbrev pub table : List Row
+table =
+    row (pos 7 ∷ []) (pos 0) (seg 1 (pos 7) ∷ [])
+    ∷ row (pos 7 ∷ []) (pos 1099511627776) (seg 1 (pos 7) ∷ [])
+    ∷ row (pos 0 ∷ pos 10 ∷ []) (pos 0) (seg 1 (pos 0) ∷ seg 1 (pos 10) ∷ [])
+    ∷ row (pos 0 ∷ pos 10 ∷ []) (pos 4) (seg 1 (pos 4) ∷ seg 1 (pos 6) ∷ [])
+    ∷ row (pos 0 ∷ pos 10 ∷ []) (pos 5) (seg 2 (pos 10) ∷ [])
+    ∷ row (pos 10 ∷ pos 0 ∷ []) (pos 1) (seg 1 (pos 9) ∷ seg 1 (pos 1) ∷ [])
+    ∷ row (pos 3 ∷ pos 3 ∷ pos 3 ∷ []) (pos 0) (seg 3 (pos 9) ∷ [])
+    ∷ row (pos 0 ∷ pos 0 ∷ pos 9 ∷ []) (pos 1) (seg 2 (pos 1) ∷ seg 1 (pos 8) ∷ [])
+    ∷ row (pos 0 ∷ pos 6 ∷ pos 0 ∷ []) (pos 1) (seg 1 (pos 1) ∷ seg 1 (pos 4) ∷ seg 1 (pos 1) ∷ [])
+    ∷ row (pos 0 ∷ pos 6 ∷ pos 0 ∷ []) (pos 2) (seg 3 (pos 6) ∷ [])
+    ∷ row (pos 0 ∷ pos 4 ∷ pos 8 ∷ []) (pos 1) (seg 1 (pos 1) ∷ seg 1 (pos 4) ∷ seg 1 (pos 7) ∷ [])
+    ∷ row (negℤ (pos 1) ∷ negℤ (pos 2) ∷ []) (pos 1) (seg 2 (negℤ (pos 3)) ∷ [])
+    ∷ []
+
+pub known-lines : map (λ r. plain-line (r .smoothing) (r .samples)) table ≡ map (λ r. r .segments) table
+unfolding line run step
+known-lines = refl
+
+-- u[1] = −5 in the fifth row, over the scale 2
+pub known-dual : let ys = pos 0 ∷ pos 10 ∷ [] in dual (pos 2) (pos 0) (plain ys) (numerators 2 (plain-line (pos 5) ys)) 1 ≡ pos 2 *ℤ negℤ (pos 5)
+unfolding line run step dual plain numerators
+known-dual = refl

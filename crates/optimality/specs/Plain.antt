@@ -1,0 +1,85 @@
+-- A plain series: every weight is 1, so a segment's divisor is its length, and a line is two lists, lengths and totals.
+use mathlib.Core.Path.{_≡_, refl, sym, _∙_, ap, ap₂}
+use mathlib.Core.List.{List, [], _∷_, map}
+use Prim.Native.Nat.{ℕ, zero, suc, _≤_}
+use native.Mathlib.Omega.{arith}
+use lib.ListN.{length, drop, length-drop, length-map}
+use lib.IntN.{ℤ, pos, _+ℤ_}
+use lib.Signed.{ltZ-yes}
+use Rattle.integers.specs.Order.{_⩽_}
+use Rattle.optimality.specs.Series.{Positive, plain, plain-minute}
+use Rattle.optimality.specs.Segments.{Segment, lengths, Proper, weigh, Weighed, WellFormed, IsLine}
+use Rattle.optimality.specs.Unique.{unique}
+
+-- ---- the series
+pub plain-positive : (ys : List ℤ) → Positive (plain ys)
+unfolding plain Positive
+plain-positive [] = tt
+plain-positive (y ∷ ys) = (ltZ-yes tt, plain-positive ys)
+
+pub length-plain : (ys : List ℤ) → length (plain ys) ≡ length ys
+unfolding plain
+length-plain ys = length-map ys plain-minute
+
+drop-plain : (n : ℕ) (ys : List ℤ) → drop n (plain ys) ≡ plain (drop n ys)
+unfolding plain
+drop-plain zero ys = refl
+drop-plain (suc n) [] = refl
+drop-plain (suc n) (y ∷ ys) = drop-plain n ys
+
+weigh-plain : (n : ℕ) (ys : List ℤ) → n ≤ length ys → weigh n (plain ys) ≡ pos n
+unfolding weigh plain
+weigh-plain zero ys h = refl
+weigh-plain (suc n) [] h = absurd (omega arith)
+weigh-plain (suc n) (y ∷ ys) h = ap (λ t. pos 1 +ℤ t) (weigh-plain n ys (omega arith)) ∙ ap pos (omega arith)
+
+-- ---- the line that lists of lengths and totals are
+unfoldable pub segments : List ℕ → List ℤ → List Segment
+segments [] ts = []
+segments (n ∷ ns) [] = []
+segments (n ∷ ns) (t ∷ ts) = record { len = n; divisor = n; total = t } ∷ segments ns ts
+
+weighed-plain : (ys : List ℤ) (ns : List ℕ) (ts : List ℤ) → lengths (segments ns ts) ≤ length ys → Weighed (plain ys) (segments ns ts)
+unfolding Weighed segments lengths
+weighed-plain ys [] ts h = tt
+weighed-plain ys (n ∷ ns) [] h = tt
+weighed-plain ys (n ∷ ns) (t ∷ ts) h = (sym (weigh-plain n ys (omega arith)), rw (drop-plain n ys) (weighed-plain (drop n ys) ns ts (omega (arith, length-drop n ys))))
+
+pub plain-formed : (ys : List ℤ) (ns : List ℕ) (ts : List ℤ) → Proper (segments ns ts) → lengths (segments ns ts) ≡ length ys → WellFormed (plain ys) (segments ns ts)
+plain-formed ys ns ts r l = record { proper = r; long = l ∙ sym (length-plain ys); weighed = weighed-plain ys ns ts (omega arith) }
+
+-- ---- and the lists of a line, the one the inverse of the other
+abbrev pub lens : List Segment → List ℕ
+lens ss = map (λ s. s .len) ss
+
+abbrev pub totals : List Segment → List ℤ
+totals ss = map (λ s. s .total) ss
+
+as-lists : (ys : List ℤ) (ss : List Segment) → lengths ss ≤ length ys → Weighed (plain ys) ss → ss ≡ segments (lens ss) (totals ss)
+unfolding Weighed segments lengths
+as-lists ys [] l w = refl
+as-lists ys (s ∷ ss) l w = ap₂ _∷_ (go (w .0 ∙ weigh-plain (s .len) ys (omega arith))) (as-lists (drop (s .len) ys) ss (omega (arith, length-drop (s .len) ys)) (rw (drop-plain (s .len) ys) at (w .1)))
+  where
+    go : pos (s .divisor) ≡ pos (s .len) → s ≡ record { len = s .len; divisor = s .len; total = s .total }
+    go e = let d : s .divisor ≡ s .len = cc in λ i. record { len = s .len; divisor = d i; total = s .total }
+
+pub formed-lists : (ys : List ℤ) (ss : List Segment) → WellFormed (plain ys) ss → ss ≡ segments (lens ss) (totals ss)
+formed-lists ys ss f = as-lists ys ss (omega (arith, f .long, length-plain ys)) (f .weighed)
+
+lists-back : (ns : List ℕ) (ts : List ℤ) → length ns ≡ length ts → (lens (segments ns ts) ≡ ns) × (totals (segments ns ts) ≡ ts)
+unfolding segments
+lists-back [] [] l = (refl, refl)
+lists-back [] (t ∷ ts) l = absurd (omega arith)
+lists-back (n ∷ ns) [] l = absurd (omega arith)
+lists-back (n ∷ ns) (t ∷ ts) l = let h = lists-back ns ts (omega arith) in (ap (λ r. n ∷ r) (h .0), ap (λ r. t ∷ r) (h .1))
+
+pub same-lists : (ns ns′ : List ℕ) (ts ts′ : List ℤ) → length ns ≡ length ts → length ns′ ≡ length ts′ → segments ns ts ≡ segments ns′ ts′ → (ns ≡ ns′) × (ts ≡ ts′)
+same-lists ns ns′ ts ts′ l l′ e =
+    let h = lists-back ns ts l in
+    let h′ = lists-back ns′ ts′ l′ in
+    (sym (h .0) ∙ ap lens e ∙ h′ .0, sym (h .1) ∙ ap totals e ∙ h′ .1)
+
+-- so a plain series has one line, as lists too
+pub unique-lists : (L : ℤ) (ys : List ℤ) (ns ns′ : List ℕ) (ts ts′ : List ℤ) → pos 0 ⩽ L → length ns ≡ length ts → length ns′ ≡ length ts′ →
+    IsLine L (pos 0) (pos 0) (plain ys) (segments ns ts) → IsLine L (pos 0) (pos 0) (plain ys) (segments ns′ ts′) → (ns ≡ ns′) × (ts ≡ ts′)
+unique-lists L ys ns ns′ ts ts′ p l l′ h h′ = same-lists ns ns′ ts ts′ l l′ (unique L (pos 0) (pos 0) (plain ys) _ _ (plain-positive ys) p h h′)

@@ -1,0 +1,41 @@
+-- What is proved of the line of a plain series, in one place: it meets (6) and (7), it alone does, it is the minimum (demands 2 and 3), its
+-- totals add up to the samples, and its levels stay in the samples' range.
+use mathlib.Core.Path.{_≡_}
+use mathlib.Core.List.{List}
+use Prim.Native.Nat.{ℕ, _<_}
+use lib.ListN.{length}
+use lib.IntN.{ℤ, pos}
+use Rattle.integers.specs.Order.{_⩽_}
+use Rattle.integers.specs.Sums.{sumZ}
+use Rattle.optimality.specs.Series.{plain}
+use Rattle.optimality.specs.Conditions.{Optimal}
+use Rattle.optimality.specs.Segments.{Segment, IsLine, Scale, numerators}
+use Rattle.optimality.specs.Minimum.{PlainMinimum}
+use Rattle.optimality.specs.Machine.{plain-line}
+use Rattle.optimality.specs.Verdict.{optimal}
+use Rattle.optimality.specs.Unique.{unique}
+use Rattle.optimality.specs.Plain.{plain-positive, totals}
+use Rattle.optimality.specs.Candidate.{plain-minimum}
+use Rattle.optimality.specs.Totals.{plain-totals}
+use Rattle.optimality.specs.Range.{Bounded, Within, in-range}
+use Rattle.optimality.specs.Correct.{plain-correct}
+
+module _ (L : ℤ) (ys : List ℤ) (some : 0 < length ys) (smooth : pos 0 ⩽ L) where
+  pub meets : IsLine L (pos 0) (pos 0) (plain ys) (plain-line L ys)
+  meets = plain-correct L ys some smooth
+
+  -- minute by minute, over any scale
+  pub meets-pointwise : (Q : ℕ) → 0 < Q → Scale Q (plain-line L ys) → Optimal (pos Q) L (pos 0) (pos 0) (plain ys) (numerators Q (plain-line L ys))
+  meets-pointwise = optimal L (pos 0) (pos 0) (plain ys) (plain-line L ys) smooth meets
+
+  pub only : (ss : List Segment) → IsLine L (pos 0) (pos 0) (plain ys) ss → ss ≡ plain-line L ys
+  only ss h = unique L (pos 0) (pos 0) (plain ys) ss (plain-line L ys) (plain-positive ys) smooth h meets
+
+  pub minimum : PlainMinimum L ys (plain-line L ys)
+  minimum = plain-minimum L ys (plain-line L ys) smooth meets
+
+  pub totals-add-up : sumZ (totals (plain-line L ys)) ≡ sumZ ys
+  totals-add-up = plain-totals L ys (plain-line L ys) smooth some meets
+
+  pub in-samples-range : (B : ℕ) → Bounded B (plain ys) → Within B (plain-line L ys)
+  in-samples-range B h = in-range L B (plain ys) (plain-line L ys) (plain-positive ys) smooth h meets
