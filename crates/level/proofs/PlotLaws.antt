@@ -1,4 +1,4 @@
--- The plotted value never orders two levels the wrong way: this follows from `best` alone. And a total of 0 plots as plus zero.
+-- The plotted value never orders two levels the wrong way: this follows from `best` alone. A total of 0 plots as plus zero, (2, −3) as −1.5.
 use mathlib.Core.Path.{_≡_, refl, sym, ap, _∙_, subst₂}
 use mathlib.Core.Bool.{Bool, true, false, _||_}
 use mathlib.Core.Logic.{⊎-elim}
@@ -7,7 +7,7 @@ use Prim.Native.Nat.{ℕ, _+_, _*_, _≤_, _<_}
 use native.Mathlib.Nat.{mul-one, zero-mul, eq-or-lt-of-le}
 use native.Mathlib.Omega.{arith}
 use lib.Dec.{T, lit<}
-use lib.IntN.{ℤ, pos, negℤ, natAbs, _+ℤ_, _*ℤ_, _-ℤ_}
+use lib.IntN.{ℤ, pos, negsuc, negℤ, natAbs, _+ℤ_, _*ℤ_, _-ℤ_}
 use lib.Signed.{ltZ-yes}
 use lib.Ieee.{Float, nan, inf, fin, binary64, round, fits, le, lt, eq, below, level, up, down}
 use lib.Ieee.Fits.{down-pos}
@@ -29,6 +29,10 @@ plus-zero length h = round-same binary64 false 0 length 0 1 h (lit< tt) (mul-one
   where
     zero : round binary64 false 0 1 ≡ fin false 0 (pos 0)
     zero = unfold round in refl
+
+-- the starred row of paper 01's known lines: (2, −3) plots as −1.5, which is −3 * 2 ^ -1
+pub known-plot : nearestTo (record { length = 2; total = negsuc 2 }) ≡ fin true 3 (negsuc 0)
+known-plot = unfold round in refl
 
 -- ---- the order of f64s, by their fractions
 ordered : (s t : Bool) (A B : ℕ) → signed s A ⩽ signed t B → T (below s A t B || level s A t B)

@@ -1,0 +1,32 @@
+/* The level line of a month of mail delay, from C. Link target/staticlib/libconsole.a (rt staticlib console).
+ *
+ * One duty is on the caller's side: each area is as long as the count beside it says, and an area that is written lies apart from the others.
+ * Nothing else need be true of what is handed over. A call that returns a refusal leaves every area as it was.
+ *
+ * A result below 0 is a refusal: minus (256 times the place, plus the number), so that for r < 0 the number is -r % 256 and the place -r / 256.
+ *
+ *   1  no minutes                             5  a list has fewer entries than there are minutes, or the output is too short
+ *   2  more than 65,536 minutes               6  a line's shape: no segment or lists of unequal length; a length of 0, place its segment;
+ *   3  a sample beyond 16,777,216 either         lengths that do not add up
+ *      way, place its minute                  7  a total beyond its length times 16,777,216, place its segment
+ *   4  a smoothing above 2^40                 8  neighbours of equal level, place the second
+ *                                             9  conditions (6), (7) of Condat 2013 broken, place the first such minute
+ *
+ * Minutes and segments are numbered from 1. */
+#ifndef DAWHIKURA_H
+#define DAWHIKURA_H
+
+#include <stddef.h>
+#include <stdint.h>
+
+/* The line of a series. The first entries of both lists are its segments, later ones are kept; the result is their number. The lists need as many
+ * entries as there are samples. Refusals 1, 2, 4, 3, 5. */
+int64_t series_line(const int32_t *samples, size_t minutes, uint64_t smoothing, uint32_t *lengths, size_t lengths_len, int64_t *totals, size_t totals_len);
+
+/* The balance after each minute, times the length of the segment that holds it. The result is 0. Refusals 1, 2, 4, 3, 5. */
+int64_t series_balances(const int32_t *samples, size_t minutes, uint64_t smoothing, int64_t *out, size_t out_len);
+
+/* Whether a line that somebody else drew is the line of the series: 0, or the first refusal of 1, 2, 4, 3, 6, 7, 8, 9. */
+int64_t series_check(const int32_t *samples, size_t minutes, uint64_t smoothing, const uint32_t *lengths, size_t lengths_len, const int64_t *totals, size_t totals_len);
+
+#endif
