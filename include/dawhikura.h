@@ -29,4 +29,8 @@ int64_t series_balances(const int32_t *samples, size_t minutes, uint64_t smoothi
 /* Whether a line that somebody else drew is the line of the series: 0, or the first refusal of 1, 2, 4, 3, 6, 7, 8, 9. */
 int64_t series_check(const int32_t *samples, size_t minutes, uint64_t smoothing, const uint32_t *lengths, size_t lengths_len, const int64_t *totals, size_t totals_len);
 
+/* Completes a sheet (README, "The sheet"): writes the same sheet with its line; one that has its line comes out unchanged. The result is the number of
+ * bytes written; bytes past them are kept. Refusals 10, 1, 2, 11, 12, 4, 3, then 6 to 9 where a line is filed, then 5 for a short output. */
+int64_t sheet_complete(const uint8_t *sheet, size_t sheet_len, uint8_t *out, size_t out_len);
+
 #endif

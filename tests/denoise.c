@@ -7,19 +7,9 @@
 #include <string.h>
 
 #include "../include/dawhikura.h"
+#include "paper.h"
 
-typedef int64_t i64;
 typedef __int128 wide;
-
-enum { MOST = 65536, LIMIT = 16777216 };
-static const uint64_t SMOOTHEST = (uint64_t)1 << 40;
-
-/* a line */
-typedef struct {
-    size_t n;
-    uint32_t length[MOST];
-    i64 total[MOST];
-} Line;
 
 static unsigned long lines, balance_runs, checks, passed;
 
@@ -38,191 +28,6 @@ static void fail(const char *what, const int32_t *y, size_t n, uint64_t lambda, 
     exit(1);
 }
 
-static i64 refusal(i64 number, i64 place)
-{
-    return -(256 * place + number);
-}
-
-/* ---- the check, from the paper: 1, 2, 4, 3, 6, 7, 8, 9. Lists of unequal length are given by the count of totals */
-static i64 paper_limits(const int32_t *y, size_t n, uint64_t lambda)
-{
-    if (n == 0)
-        return refusal(1, 0);
-    if (n > MOST)
-        return refusal(2, 0);
-    if (lambda > SMOOTHEST)
-        return refusal(4, 0);
-    for (size_t i = 0; i < n; i++)
-        if (y[i] < -LIMIT || y[i] > LIMIT)
-            return refusal(3, (i64)i + 1);
-    return 0;
-}
-
-static int order(uint32_t la, i64 ta, uint32_t lb, i64 tb)
-{
-    wide d = (wide)ta * lb - (wide)tb * la;
-    return (d > 0) - (d < 0);
-}
-
-static i64 paper_check(const int32_t *y, size_t n, uint64_t lambda, const uint32_t *length, size_t lengths, const i64 *total, size_t totals)
-{
-    i64 r = paper_limits(y, n, lambda);
-    if (r)
-        return r;
-    if (lengths == 0 || lengths != totals)
-        return refusal(6, 0);
-    wide sum = 0;
-    for (size_t s = 0; s < lengths; s++) {
-        if (length[s] == 0)
-            return refusal(6, (i64)s + 1);
-        sum += length[s];
-    }
-    if (sum != (wide)n)
-        return refusal(6, 0);
-    for (size_t s = 0; s < lengths; s++)
-        if (total[s] > (wide)length[s] * LIMIT || total[s] < -(wide)length[s] * LIMIT)
-            return refusal(7, (i64)s + 1);
-    for (size_t s = 1; s < lengths; s++)
-        if (order(length[s - 1], total[s - 1], length[s], total[s]) == 0)
-            return refusal(8, (i64)s + 1);
-    /* u[k] as a fraction over the length of the segment that holds minute k; before a segment it is the whole u */
-    wide u_top = 0, u_under = 1;
-    size_t k = 0;
-    for (size_t s = 0; s < lengths; s++) {
-        wide l = length[s];
-        /* u before the segment, over l: u_top / u_under must be whole where it is used, which the tests below see to */
-        wide v = u_top * l / u_under;
-        for (uint32_t i = 0; i < length[s]; i++, k++) {
-            v += l * y[k] - total[s];
-            wide bound = (wide)lambda * l;
-            int bad;
-            if (k + 1 == n)
-                bad = v != 0;
-            else if (i + 1 == length[s]) {
-                int up = order(length[s], total[s], length[s + 1], total[s + 1]) < 0;
-                bad = v != (up ? -bound : bound);
-            } else
-                bad = v < -bound || v > bound;
-            if (bad)
-                return refusal(9, (i64)k + 1);
-        }
-        u_top = v;
-        u_under = l;
-    }
-    return 0;
-}
-
-/* ---- the line of a short series: the pattern of rises, falls and flats that meets the conditions; there must be just one */
-static void paper_line_short(const int32_t *y, size_t n, uint64_t lambda, Line *out)
-{
-    int found = 0;
-    size_t patterns = 1;
-    for (size_t i = 1; i < n; i++)
-        patterns *= 3;
-    for (size_t p = 0; p < patterns; p++) {
-        struct {
-            size_t n;
-            uint32_t length[6];
-            i64 total[6];
-        } c = {.n = 0};
-        i64 u = 0, sum = 0;
-        uint32_t length = 0;
-        size_t rest = p;
-        for (size_t k = 0; k < n; k++) {
-            sum += y[k];
-            length++;
-            size_t turn = k + 1 < n ? rest % 3 : 3; /* 0 flat, 1 rise, 2 fall, 3 the end */
-            rest /= 3;
-            if (turn == 0)
-                continue;
-            i64 after = turn == 1 ? -(i64)lambda : turn == 2 ? (i64)lambda : 0;
-            c.length[c.n] = length;
-            c.total[c.n] = u + sum - after;
-            c.n++;
-            u = after;
-            sum = 0;
-            length = 0;
-        }
-        if (paper_check(y, n, lambda, c.length, c.n, c.total, c.n) == 0) {
-            found++;
-            out->n = c.n;
-            memcpy(out->length, c.length, c.n * sizeof c.length[0]);
-            memcpy(out->total, c.total, c.n * sizeof c.total[0]);
-        }
-    }
-    if (found != 1)
-        fail("not one pattern meets the conditions", y, n, lambda, NULL);
-}
-
-/* ---- the line of a long series: the taut string through the tube of half width lambda around the running sums, 0 at both ends. The least
- * concave majorant of the tube's floor and the greatest convex minorant of its roof, both from the last knot, are kept as hulls */
-typedef struct {
-    size_t first, last;
-    i64 x[MOST + 2], z[MOST + 2];
-} Hull;
-
-/* the hull bends the wrong way at its last point, seen from (x, z) */
-static int bends(const Hull *h, i64 x, i64 z, int sign)
-{
-    wide before = (wide)(h->z[h->last] - h->z[h->last - 1]) * (x - h->x[h->last]);
-    wide after = (wide)(z - h->z[h->last]) * (h->x[h->last] - h->x[h->last - 1]);
-    return sign * (before - after) <= 0;
-}
-
-static void extend(Hull *h, i64 x, i64 z, int sign)
-{
-    while (h->last > h->first && bends(h, x, z, sign))
-        h->last--;
-    h->last++;
-    h->x[h->last] = x;
-    h->z[h->last] = z;
-}
-
-static void emit(Line *out, i64 length, i64 total)
-{
-    out->length[out->n] = (uint32_t)length;
-    out->total[out->n] = total;
-    out->n++;
-}
-
-/* where the one hull is a single edge to (x, z), the string may follow the other hull's first edges */
-static void follow(Hull *one, Hull *other, i64 x, i64 z, int sign, Line *out)
-{
-    if (one->last != one->first + 1)
-        return;
-    while (other->last > other->first + 1) {
-        size_t f = other->first;
-        wide direct = (wide)(z - other->z[f]) * (other->x[f + 1] - other->x[f]);
-        wide edge = (wide)(other->z[f + 1] - other->z[f]) * (x - other->x[f]);
-        if (sign * (direct - edge) <= 0)
-            return;
-        emit(out, other->x[f + 1] - other->x[f], other->z[f + 1] - other->z[f]);
-        other->first++;
-        one->x[one->first] = other->x[f + 1];
-        one->z[one->first] = other->z[f + 1];
-    }
-}
-
-static void paper_line_long(const int32_t *y, size_t n, uint64_t lambda, Line *out)
-{
-    static Hull floor, roof;
-    floor.first = floor.last = roof.first = roof.last = 0;
-    floor.x[0] = roof.x[0] = floor.z[0] = roof.z[0] = 0;
-    out->n = 0;
-    i64 sum = 0;
-    for (size_t k = 1; k <= n; k++) {
-        sum += y[k - 1];
-        i64 w = k < n ? (i64)lambda : 0;
-        extend(&floor, (i64)k, sum - w, 1);
-        extend(&roof, (i64)k, sum + w, -1);
-        follow(&floor, &roof, (i64)k, sum - w, 1, out);
-        follow(&roof, &floor, (i64)k, sum + w, -1, out);
-    }
-    Hull *h = floor.last - floor.first >= roof.last - roof.first ? &floor : &roof;
-    for (size_t f = h->first; f < h->last; f++)
-        emit(out, h->x[f + 1] - h->x[f], h->z[f + 1] - h->z[f]);
-}
-
 /* ---- the comparisons */
 static Line want, got;
 static i64 duals[MOST + 8];
@@ -234,18 +39,19 @@ static int same_line(const Line *a, const Line *b)
 
 static void compare_line(const int32_t *y, size_t n, uint64_t lambda, const Line *expected)
 {
-    for (size_t i = 0; i < MOST; i++) {
+    size_t room = n + 3 < MOST ? n + 3 : MOST;
+    for (size_t i = 0; i < room; i++) {
         got.length[i] = 0xabcdef01u + (uint32_t)i;
         got.total[i] = -7 - (i64)i;
     }
-    i64 m = series_line(y, n, lambda, got.length, n + 3 < MOST ? n + 3 : MOST, got.total, n);
+    i64 m = series_line(y, n, lambda, got.length, room, got.total, n);
     lines++;
     if (m != (i64)expected->n)
         fail("another number of segments", y, n, lambda, expected);
     got.n = (size_t)m;
     if (!same_line(&got, expected))
         fail("another line", y, n, lambda, expected);
-    for (size_t i = got.n; i < MOST; i++)
+    for (size_t i = got.n; i < room; i++)
         if (got.length[i] != 0xabcdef01u + (uint32_t)i || got.total[i] != -7 - (i64)i)
             fail("an entry past the line was touched", y, n, lambda, expected);
 }
@@ -290,10 +96,7 @@ static uint64_t state = 0x9e3779b97f4a7c15u;
 
 static uint64_t next(void)
 {
-    state ^= state << 13;
-    state ^= state >> 7;
-    state ^= state << 17;
-    return state * 0x2545f4914f6cdd1du >> 11;
+    return next_number(&state);
 }
 
 /* the line, changed in one place */
@@ -382,8 +185,7 @@ static void known(void)
         line.n = rows[r].segments;
         memcpy(line.length, rows[r].length, sizeof rows[r].length);
         memcpy(line.total, rows[r].total, sizeof rows[r].total);
-        paper_line_short(rows[r].y, rows[r].n, rows[r].lambda, &want);
-        if (!same_line(&want, &line))
+        if (!paper_line_short(rows[r].y, rows[r].n, rows[r].lambda, &want) || !same_line(&want, &line))
             fail("a known line", rows[r].y, rows[r].n, rows[r].lambda, &line);
         compare_all(rows[r].y, rows[r].n, rows[r].lambda, &line, 50);
     }
@@ -405,9 +207,8 @@ static void exhaustive(void)
                 y[i] = values[rest % 4];
             for (size_t l = 0; l < 5; l++) {
                 static Line string;
-                paper_line_short(y, n, lambdas[l], &want);
                 paper_line_long(y, n, lambdas[l], &string);
-                if (!same_line(&want, &string))
+                if (!paper_line_short(y, n, lambdas[l], &want) || !same_line(&want, &string))
                     fail("the two implementations differ", y, n, lambdas[l], &want);
                 compare_line(y, n, lambdas[l], &want);
                 compare_balances(y, n, lambdas[l], &want);

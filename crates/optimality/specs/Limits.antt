@@ -115,7 +115,7 @@ module _ (L : ℤ) (ys : List ℤ) where
       }
 
       -- ---- steps 5 and 6
-      more-small : s .k < length ys → (keep-min keep-max : Bool) → Small (more d s (U′ d s) (n′ d s) keep-min keep-max)
+      pub more-small : s .k < length ys → (keep-min keep-max : Bool) → Small (more d s (U′ d s) (n′ d s) keep-min keep-max)
       more-small h keep-min keep-max =
           let m = suc (s .k) - s .i in
           let q : s .k - s .i + 1 ≡ m = omega (arith, F .from) in

@@ -1,0 +1,20 @@
+-- What the functions of `denoise` are proved by, and the laws of its definitions.
+pub mod Tests
+pub mod First
+pub mod Refusals
+pub mod Admitted
+pub mod Room
+pub mod Turn
+pub mod Written
+pub mod Filling
+pub mod Tame
+pub mod Traced
+pub mod Taken
+pub mod Ahead
+pub mod Levels
+pub mod Shaped
+pub mod Passed
+pub mod Followed
+pub mod Concluded
+pub mod CheckLaws
+pub mod Records

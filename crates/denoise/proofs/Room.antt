@@ -1,0 +1,54 @@
+-- Within the limits each number that a step forms is small.
+use mathlib.Core.Path.{_≡_}
+use mathlib.Core.Bool.{false}
+use native.Mathlib.Omega.{arith}
+use mathlib.Core.List.{List}
+use Prim.Native.Nat.{ℕ, _<_, _≤_}
+use lib.ListN.{length, getD}
+use lib.IntN.{ℤ, pos}
+use mir.Syntax.{w64}
+use mir.Val.{toZ}
+use Rattle.integers.specs.Order.{_⩽_}
+use Rattle.integers.specs.Linear.{int}
+use Rattle.integers.specs.Bounds.{Upto, Atmost, cleaning, clean}
+use Rattle.optimality.specs.Machine.{more}
+use Rattle.optimality.specs.Tests.{U′, n′}
+use Rattle.optimality.specs.Tube.{Right, plain-right}
+use Rattle.optimality.specs.Limits as Limits
+use Rattle.denoise.specs.Run.{Small, Mid, Within, Good, dataOf, stateOf, aheadOf}
+use Rattle.denoise.specs.declared.steps.Run.{Run}
+
+module _ (ys : List ℤ) (smoothing : ℕ) (W : Within ys smoothing) where
+  pub smooth : pos 0 ⩽ pos smoothing
+  smooth = omega int
+
+  pub right : Right (dataOf ys smoothing)
+  right = plain-right (pos smoothing) ys (W .some) smooth
+
+  pub most : smoothing ≤ 1099511627776
+  most = W .limited .smoothing .upto
+
+  -- the smoothing as a signed number
+  pub lambda : toZ w64 smoothing ≡ pos smoothing
+  lambda = let l : Atmost 1099511627776 smoothing = record { atmost = most } in clean (search cleaning depth 12) tt
+
+  module _ (r : Run) (G : Good ys smoothing r) where
+    room : Limits.Room (pos smoothing) ys (stateOf r)
+    room = Limits.room (pos smoothing) ys (W .some) smooth (W .limited) (G .sound) (G .small)
+
+    pub at-small : Small (r .at)
+    at-small = record { total = record { upto = omega (arith, room .U .upto) }; divisor = room .n }
+
+    -- one minute further: what `ahead` asks, and what it gives
+    module _ (h : r .at .k < length ys) where
+      pub ready : Mid (r .at) × ((smoothing ≤ 1099511627776) × ((r .at .k < length ys) × Upto 16777216 (getD ys (r .at .k) (pos 0))))
+      ready = (record { total = room .U; n = room .n }, (most, (h, W .limited .samples (r .at .k) h)))
+
+      after : Limits.Small (pos smoothing) ys (more (dataOf ys smoothing) (stateOf r) (U′ (dataOf ys smoothing) (stateOf r)) (n′ (dataOf ys smoothing) (stateOf r)) false false)
+      after = Limits.more-small (pos smoothing) ys (W .some) smooth (W .limited) (G .sound) (G .small) h false false
+
+      pub low : Small (aheadOf ys smoothing (r .at) .low)
+      low = after .min
+
+      pub high : Small (aheadOf ys smoothing (r .at) .high)
+      high = after .max

@@ -1,0 +1,88 @@
+-- What the loop of `drawing::draw` keeps: the segments that are left, written from here on, give the lists of the whole line.
+use mathlib.Core.Path.{_≡_, refl, sym, _∙_, ap}
+use mathlib.Core.List.{List, map}
+use native.Mathlib.Omega.{arith}
+use native.Mathlib.Numerals.{add-one}
+use native.Mathlib.Nat.{zero-add}
+use Prim.Native.Nat.{ℕ, _+_, _<_, _≤_}
+use lib.ListN.{length, set, length-set, length-map}
+use lib.Seq.{sets, sets-eq}
+use lib.IntN.{ℤ, pos}
+use Rattle.optimality.specs.Segments.{Segment}
+use Rattle.optimality.specs.Machine.{begin, plain-line}
+use Rattle.optimality.specs.Sound.{lines, line-lines}
+use Rattle.denoise.specs.Limits.{overwrite}
+use Rattle.denoise.specs.Run.{Within, Good, Emits, Stops, dataOf, stateOf, segmentOf, rest, len-of, total-of}
+use Rattle.denoise.specs.declared.steps.Run.{Run}
+use Rattle.denoise.specs.declared.steps.Piece.{Piece}
+use Rattle.denoise.proofs.Room.{right}
+use Rattle.denoise.proofs.Turn.{begins}
+
+-- as many stores as there is room for
+pub sets-overwrite : {A : Type 0} (new old : List A) → length new ≤ length old → sets old 0 new ≡ overwrite new old
+unfolding overwrite
+sets-overwrite new old h = sets-eq new old 0 (rw zero-add h) ∙ rw zero-add
+
+module _ (ys : List ℤ) (smoothing : ℕ) where
+  abbrev line : List Segment
+  line = plain-line (pos smoothing) ys
+
+  -- the list xs, which was xs₀, has the segments before m written in it
+  abbrev Left : {A : Type 0} → (Segment → A) → List A → List A → ℕ → Run → Type 0
+  Left f xs₀ xs m r = sets xs m (map f (rest ys smoothing r)) ≡ sets xs₀ 0 (map f line)
+
+  pub record Kept (lengths₀ : List ℕ) (totals₀ : List ℤ) (lengths : List ℕ) (totals : List ℤ) (m : ℕ) (r : Run) : Type 0 where
+    pub good : Good ys smoothing r
+    pub few : m ≤ r .i
+    pub short : r .i < length ys
+    pub count : m + length (rest ys smoothing r) ≡ length line
+    pub lengths-long : length lengths ≡ length lengths₀
+    pub totals-long : length totals ≡ length totals₀
+    pub lengths-left : Left len-of lengths₀ lengths m r
+    pub totals-left : Left total-of totals₀ totals m r
+
+  module _ (W : Within ys smoothing) (r : Run) (e : stateOf r ≡ begin (dataOf ys smoothing) 0 (pos 0)) where
+    pub whole : rest ys smoothing r ≡ line
+    whole = ap (lines (dataOf ys smoothing)) e ∙ sym (line-lines (dataOf ys smoothing) (right ys smoothing W))
+
+    pub kept-first : (lengths : List ℕ) (totals : List ℤ) → Kept lengths totals lengths totals 0 r
+    kept-first lengths totals =
+        let i : r .i ≡ 0 = ap (λ s. s .i) e in
+        record {
+          good = begins ys smoothing W r 0 (pos 0) (W .some) (omega arith) e;
+          few = omega arith;
+          short = omega (arith, W .some);
+          count = rw whole (zero-add (length line));
+          lengths-long = refl;
+          totals-long = refl;
+          lengths-left = rw whole;
+          totals-left = rw whole;
+        }
+
+  module _ {lengths₀ : List ℕ} {totals₀ : List ℤ} {lengths : List ℕ} {totals : List ℤ} {m : ℕ} {r : Run} (K : Kept lengths₀ totals₀ lengths totals m r) where
+    -- a segment more
+    pub kept-turn : (p : Piece) (q : Run) → Emits ys smoothing r p q → Kept lengths₀ totals₀ (set lengths m (p .len)) (set totals m (p .total)) (m + 1) q
+    kept-turn p q E = record {
+      good = E .good;
+      few = omega (arith, K .few, E .further);
+      short = E .short;
+      count = omega (arith, K .count, ap length (E .rest));
+      lengths-long = simp length-set (K .lengths-long);
+      totals-long = simp length-set (K .totals-long);
+      lengths-left = rw (add-one m) (sym (ap (λ l. sets lengths m (map len-of l)) (E .rest)) ∙ K .lengths-left);
+      totals-left = rw (add-one m) (sym (ap (λ l. sets totals m (map total-of l)) (E .rest)) ∙ K .totals-left);
+    }
+
+    -- the last one
+    module _ (p : Piece) (S : Stops ys smoothing r p) where
+      pub count-end : m + 1 ≡ length line
+      count-end = omega (arith, K .count, ap length (S .rest))
+
+      end : {A : Type 0} (f : Segment → A) (xs₀ xs : List A) → length ys ≤ length xs₀ → Left f xs₀ xs m r → set xs m (f (segmentOf p)) ≡ overwrite (map f line) xs₀
+      end f xs₀ xs h L = sym (ap (λ l. sets xs m (map f l)) (S .rest)) ∙ L ∙ sets-overwrite (map f line) xs₀ (rw (length-map line f) (omega (arith, count-end, K .few, K .short)))
+
+      pub lengths-end : length ys ≤ length lengths₀ → set lengths m (p .len) ≡ overwrite (map len-of line) lengths₀
+      lengths-end h = end len-of lengths₀ lengths h (K .lengths-left)
+
+      pub totals-end : length ys ≤ length totals₀ → set totals m (p .total) ≡ overwrite (map total-of line) totals₀
+      totals-end h = end total-of totals₀ totals h (K .totals-left)

@@ -1,0 +1,18 @@
+-- `denoise::steps::rises` meets its contract.
+use mathlib.Core.Path.{ap, _∙_}
+use Rattle.denoise.specs.Run.{belowOf}
+use Rattle.denoise.proofs.Room.{ready, low}
+use Rattle.denoise.proofs.steps.rises.Statement.{statement}
+use Rattle.denoise.proofs.steps.rises.Tie as tie
+
+ahead-requires : tie.Need-ahead-requires
+ahead-requires c κs = let s = c .before .before in ready _ _ (s .pre .0) _ (s .pre .1 .0) (s .pre .1 .1)
+
+below-requires : tie.Need-below-requires
+below-requires c κs = let w = c .before in let s = w .before .before .before in (s .pre .1 .0 .small .max, rw (w .ahead .ensures) (low _ _ (s .pre .0) _ (s .pre .1 .0) (s .pre .1 .1)))
+
+returns : tie.Need-returns
+returns c = let w = c .before .before in let s = w .before .before .before in c .below .ensures ∙ ap (λ t. belowOf (s .args .r .max) (t .low)) (w .ahead .ensures)
+
+pub rises-spec : {M : Type 1} → statement M
+rises-spec = tie.close (tie.spec ahead-requires below-requires returns)

@@ -1,0 +1,36 @@
+-- The dual of a series (paper 01's balances): u[k] times the length of the segment that holds minute k. Refusals 1, 2, 4, 3, 5.
+use mathlib.Core.List.{List, [], _∷_, _++_}
+use Prim.Native.Nat.{ℕ}
+use lib.Dec.{ltb}
+use lib.ListN.{length, take, drop}
+use lib.IntN.{ℤ, pos, _+ℤ_, _-ℤ_}
+use Rattle.integers.specs.Sums.{sumZ}
+use Rattle.optimality.specs.Series.{plain-minute}
+use Rattle.optimality.specs.Segments.{Segment, by-divisor, then-v}
+use Rattle.optimality.specs.Machine.{plain-line}
+use Rattle.level.specs.Answer.{Answer, refused, given, refuse-if}
+use Rattle.denoise.specs.Limits.{in-limits, overwrite, on-success}
+use Rattle.denoise.specs.declared.Filled.{Filled}
+use Rattle.denoise.specs.declared.Filled.the-variants as Filled
+
+abbrev pub filled : Filled → Answer (Unit {0})
+filled Filled.Done = given tt
+filled (Filled.Refused number place) = refused number place
+
+-- at the minutes of one segment, where v is u times its length before them
+unfoldable pub duals-inside : Segment → ℤ → List ℤ → List ℤ
+duals-inside s v [] = []
+duals-inside s v (y ∷ ys) = then-v s v (plain-minute y) ∷ duals-inside s (then-v s v (plain-minute y)) ys
+
+-- at the minutes of a line, where u is the dual before them
+unfoldable pub duals : ℤ → List ℤ → List Segment → List ℤ
+duals u ys [] = []
+duals u ys (s ∷ ss) = duals-inside s (by-divisor s u) (take (s .len) ys) ++ duals (u +ℤ sumZ (take (s .len) ys) -ℤ s .total) (drop (s .len) ys) ss
+
+module _ (ys : List ℤ) (smoothing : ℕ) (out : List ℤ) where
+  abbrev pub balancesOf : Answer (Unit {0})
+  balancesOf = in-limits ys smoothing (refuse-if (ltb (length out) (length ys)) 5 0 (given tt))
+
+  -- what the list then holds
+  abbrev pub balancesAfter : List ℤ
+  balancesAfter = on-success balancesOf (overwrite (duals (pos 0) ys (plain-line (pos smoothing) ys)) out) out

@@ -1,0 +1,29 @@
+-- The line of a series: refusals 1, 2, 4, 3, 5, then the only line that meets (6) and (7) of Condat 2013 (paper 01, "The line").
+use mathlib.Core.Bool.{_||_}
+use mathlib.Core.List.{List, map}
+use Prim.Native.Nat.{ℕ}
+use lib.Dec.{ltb}
+use lib.ListN.{length}
+use lib.IntN.{ℤ, pos}
+use Rattle.optimality.specs.Segments.{Segment}
+use Rattle.optimality.specs.Machine.{plain-line}
+use Rattle.level.specs.Answer.{Answer, refused, given, refuse-if}
+use Rattle.denoise.specs.Limits.{in-limits, overwrite, on-success}
+use Rattle.denoise.specs.declared.Drawn.{Drawn}
+use Rattle.denoise.specs.declared.Drawn.the-variants as Drawn
+
+-- the number of segments drawn
+abbrev pub drawn : Drawn → Answer ℕ
+drawn (Drawn.Segments m) = given m
+drawn (Drawn.Refused number place) = refused number place
+
+module _ (ys : List ℤ) (smoothing : ℕ) (lengths : List ℕ) (totals : List ℤ) where
+  abbrev pub lineOf : Answer ℕ
+  lineOf = in-limits ys smoothing (refuse-if (ltb (length lengths) (length ys) || ltb (length totals) (length ys)) 5 0 (given (length (plain-line (pos smoothing) ys))))
+
+  -- what the two lists then hold
+  abbrev pub lengthsOf : List ℕ
+  lengthsOf = on-success lineOf (overwrite (map (λ (s : Segment). s .len) (plain-line (pos smoothing) ys)) lengths) lengths
+
+  abbrev pub totalsOf : List ℤ
+  totalsOf = on-success lineOf (overwrite (map (λ (s : Segment). s .total) (plain-line (pos smoothing) ys)) totals) totals

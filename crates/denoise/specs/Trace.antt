@@ -1,0 +1,43 @@
+-- The dual along a segment, as the code fills it in.
+use mathlib.Core.List.{List}
+use Prim.Native.Nat.{ℕ, suc, _+_, _<_, _≤_}
+use lib.ListN.{length, getD, take, drop}
+use lib.IntN.{ℤ, pos, _+ℤ_, _*ℤ_, _-ℤ_}
+use Rattle.integers.specs.Order.{_⋖_}
+use Rattle.integers.specs.Sums.{sumZ}
+use Rattle.integers.specs.Bounds.{Upto}
+use Rattle.optimality.specs.Limits.{Slight}
+use Rattle.optimality.specs.Segments.{by-divisor}
+use Rattle.denoise.specs.Dual.{duals-inside}
+use Rattle.denoise.specs.Run.{segmentOf}
+use Rattle.denoise.specs.declared.steps.Mark.{Mark}
+use Rattle.denoise.specs.declared.steps.Piece.{Piece}
+use Rattle.denoise.specs.declared.tracing.Dual.{Dual}
+
+-- so small that one minute more does not overflow
+pub record Steady (d : Dual) : Type 0 where
+  pub v : Upto 576460752303423488 (d .v)
+  pub u : Upto 4398046511104 (d .u)
+
+abbrev pub minuteOf : List ℤ → Piece → Dual → Dual
+minuteOf ys p d = record { k = suc (d .k); v = d .v +ℤ (p .n *ℤ getD ys (d .k) (pos 0) -ℤ p .total); u = d .u +ℤ getD ys (d .k) (pos 0) }
+
+module _ (ys : List ℤ) (m : Mark) (p : Piece) where
+  -- the segment p may begin at m
+  pub record Fills : Type 0 where
+    pub minutes : length ys ≤ 65536
+    pub samples : (j : ℕ) → j < length ys → Upto 16777216 (getD ys j (pos 0))
+    pub upto : m .i + p .len ≤ length ys
+    pub dual : Upto 1099511627776 (m .u)
+    pub above : pos 0 ⋖ p .n
+    pub small : Slight (p .total) (p .n)
+
+  -- its minutes
+  abbrev pub minutes : List ℤ
+  minutes = take (p .len) (drop (m .i) ys)
+
+  abbrev pub filledOf : List ℤ
+  filledOf = duals-inside (segmentOf p) (by-divisor (segmentOf p) (m .u)) minutes
+
+  abbrev pub markOf : Mark
+  markOf = record { i = m .i + p .len; u = m .u +ℤ sumZ minutes -ℤ p .total }

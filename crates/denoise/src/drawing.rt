@@ -1,0 +1,53 @@
+// The segments of a line, written as they end.
+
+ghost use mathlib.Core.Path.{_≡_};
+ghost use mathlib.Core.List.{map};
+ghost use Prim.Native.Nat.{_≤_, _<_};
+ghost use lib.ListN.{length, set};
+ghost use lib.IntN.{pos};
+ghost use Rattle.optimality.specs.Machine.{plain-line};
+ghost use Rattle.denoise.specs.Limits.{overwrite};
+ghost use Rattle.denoise.specs.Run.{Within, len-of, total-of};
+use super::steps;
+use super::steps::Mark;
+use super::steps::Next;
+use super::steps::Piece;
+
+// The line where nothing is refused.
+pub fn draw(samples: &[i32], smoothing: u64, lengths: &mut [u32], totals: &mut [i64]) -> u32
+    requires { ⌜ Within (now samples) smoothing ⌝ }
+    requires { ⌜ length (now samples) ≤ length (now lengths) ⌝ }
+    requires { ⌜ length (now samples) ≤ length (now totals) ⌝ }
+    ensures { λ m. ⌜ m ≡ length (plain-line (pos smoothing) (now (samples .entry))) ⌝ }
+    ensures { λ m. ⌜ now (lengths .exit) ≡ overwrite (map len-of (plain-line (pos smoothing) (now (samples .entry)))) (now (lengths .entry)) ⌝ }
+    ensures { λ m. ⌜ now (totals .exit) ≡ overwrite (map total-of (plain-line (pos smoothing) (now (samples .entry)))) (now (totals .entry)) ⌝ }
+{
+    let mut m = 0;
+    let mut r = steps::begin(samples, smoothing, Mark { i: 0, u: 0 });
+    loop {
+        match steps::advance(samples, smoothing, r) {
+            Next::Emit(p, next) => {
+                write(p, m, lengths, totals);
+                m += 1;
+                r = next;
+            }
+            Next::Last(p) => {
+                write(p, m, lengths, totals);
+                return (m + 1) as u32;
+            }
+        }
+    }
+}
+
+// A segment, written at m.
+fn write(p: Piece, m: usize, lengths: &mut [u32], totals: &mut [i64])
+    requires { ⌜ p .len ≤ 65536 ⌝ }
+    requires { ⌜ m < length (now lengths) ⌝ }
+    requires { ⌜ m < length (now totals) ⌝ }
+    ensures { λ _. ⌜ now (lengths .exit) ≡ set (now (lengths .entry)) m (p .len) ⌝ }
+    ensures { λ _. ⌜ now (totals .exit) ≡ set (now (totals .entry)) m (p .total) ⌝ }
+{
+    lengths[m] = p.len as u32;
+    let total = p.total;
+    totals[m] = total;
+}

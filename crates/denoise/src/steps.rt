@@ -1,0 +1,302 @@
+// The ten steps of Condat 2013 in whole numbers, as optimality's Machine tells them: "step 3" is the paper's step 3.
+
+ghost use mathlib.Core.Path.{_≡_};
+ghost use Prim.Native.Nat.{_≤_, _<_};
+ghost use lib.ListN.{length, getD};
+ghost use lib.IntN.{pos, negℤ};
+ghost use Rattle.integers.specs.Bounds.{Upto};
+ghost use Rattle.optimality.specs.Machine.{begin, pick};
+ghost use Rattle.optimality.specs.Tests.{test3, test4};
+ghost use Rattle.denoise.specs.Run.{Small, Mid, Within, belowOf, aheadOf, cutOf, stateOf, dataOf, moreOf, Good, Scanned, Advanced};
+
+// The level total / n. It leads from the start of the segment under construction to minute k.
+pub struct Slope {
+    pub total: i64,
+    pub n: i64,
+    pub k: usize,
+}
+
+// The segment under construction. It begins after minute i and has come to minute at.k: at.total is the dual at minute i plus its samples,
+// at.n their number. The lowest level allowed is min, the highest max.
+pub struct Run {
+    pub i: usize,
+    pub at: Slope,
+    pub min: Slope,
+    pub max: Slope,
+}
+
+// The tube at a minute: its middle, its lower and its upper side.
+pub struct Tube {
+    pub at: Slope,
+    pub low: Slope,
+    pub high: Slope,
+}
+
+// A minute, and the dual there.
+pub struct Mark {
+    pub i: usize,
+    pub u: i64,
+}
+
+// A segment of the line: len minutes at the level total / n.
+pub struct Piece {
+    pub len: usize,
+    pub n: i64,
+    pub total: i64,
+}
+
+// Why a scan halts: the segment ends by step 3 or by step 4, or no minute is left.
+pub enum Halt {
+    Fall(Run),
+    Rise(Run),
+    End(Run),
+}
+
+// The next segment of the line, and what comes after it.
+pub enum Next {
+    Emit(Piece, Run),
+    Last(Piece),
+}
+
+// Whether the level a is below the level b.
+fn below(a: Slope, b: Slope) -> bool
+    requires { ⌜ Small a ⌝ }
+    requires { ⌜ Small b ⌝ }
+    ensures { λ r. ⌜ r ≡ belowOf a b ⌝ }
+{
+    b.n * a.total < a.n * b.total
+}
+
+// One minute further than s, and the two sides of the tube there.
+fn ahead(samples: &[i32], smoothing: u64, s: Slope) -> Tube
+    requires { ⌜ Mid s ⌝ }
+    requires { ⌜ smoothing ≤ 1099511627776 ⌝ }
+    requires { ⌜ s .k < length (now samples) ⌝ }
+    requires { ⌜ Upto 16777216 (getD (now samples) (s .k) (pos 0)) ⌝ }
+    ensures { λ r. ⌜ r ≡ aheadOf (now (samples .entry)) smoothing s ⌝ }
+{
+    let lambda = smoothing as i64;
+    let k = s.k;
+    let n = s.n + 1;
+    let total = s.total + samples[k] as i64;
+    Tube {
+        at: Slope { total, n, k: k + 1 },
+        low: Slope {
+            total: total - lambda,
+            n,
+            k: k + 1,
+        },
+        high: Slope {
+            total: total + lambda,
+            n,
+            k: k + 1,
+        },
+    }
+}
+
+// The bound a where it is kept, b where it is touched anew.
+fn choose(keep: bool, a: Slope, b: Slope) -> Slope
+    ensures { λ r. ⌜ r ≡ pick keep a b ⌝ }
+{
+    if keep { a } else { b }
+}
+
+// Step 1, and the restart of the others: a segment begins at a mark.
+pub fn begin(samples: &[i32], smoothing: u64, m: Mark) -> Run
+    requires { ⌜ Within (now samples) smoothing ⌝ }
+    requires { ⌜ m .i < length (now samples) ⌝ }
+    requires { ⌜ Upto 1099511627776 (m .u) ⌝ }
+    ensures { λ r. ⌜ stateOf r ≡ begin (dataOf (now (samples .entry)) smoothing) (m .i) (m .u) ⌝ }
+{
+    let start = Slope {
+        total: m.u,
+        n: 0,
+        k: m.i,
+    };
+    let t = ahead(samples, smoothing, start);
+    let at = t.at;
+    let min = t.low;
+    let max = t.high;
+    Run {
+        i: m.i,
+        at,
+        min,
+        max,
+    }
+}
+
+// The line falls after minute k.
+fn fall(samples: &[i32], smoothing: u64, k: usize) -> Run
+    requires { ⌜ Within (now samples) smoothing ⌝ }
+    requires { ⌜ k < length (now samples) ⌝ }
+    ensures { λ r. ⌜ stateOf r ≡ begin (dataOf (now (samples .entry)) smoothing) k (pos smoothing) ⌝ }
+{
+    begin(
+        samples,
+        smoothing,
+        Mark {
+            i: k,
+            u: smoothing as i64,
+        },
+    )
+}
+
+// The line rises after minute k.
+fn rise(samples: &[i32], smoothing: u64, k: usize) -> Run
+    requires { ⌜ Within (now samples) smoothing ⌝ }
+    requires { ⌜ k < length (now samples) ⌝ }
+    ensures { λ r. ⌜ stateOf r ≡ begin (dataOf (now (samples .entry)) smoothing) k (negℤ (pos smoothing)) ⌝ }
+{
+    begin(
+        samples,
+        smoothing,
+        Mark {
+            i: k,
+            u: -(smoothing as i64),
+        },
+    )
+}
+
+// The segment after minute i to the minute of a slope.
+fn cut(i: usize, s: Slope) -> Piece
+    requires { ⌜ i ≤ s .k ⌝ }
+    ensures { λ r. ⌜ r ≡ cutOf i s ⌝ }
+{
+    Piece {
+        len: s.k - i,
+        n: s.n,
+        total: s.total,
+    }
+}
+
+// Step 3's test, where a minute is left.
+fn falls(samples: &[i32], smoothing: u64, r: Run) -> bool
+    requires { ⌜ Within (now samples) smoothing ⌝ }
+    requires { ⌜ Good (now samples) smoothing r ⌝ }
+    requires { ⌜ r .at .k < length (now samples) ⌝ }
+    ensures { λ b. ⌜ b ≡ test3 (dataOf (now (samples .entry)) smoothing) (stateOf r) ⌝ }
+{
+    let at = r.at;
+    let min = r.min;
+    let t = ahead(samples, smoothing, at);
+    let high = t.high;
+    below(high, min)
+}
+
+// Step 4's test, where a minute is left.
+fn rises(samples: &[i32], smoothing: u64, r: Run) -> bool
+    requires { ⌜ Within (now samples) smoothing ⌝ }
+    requires { ⌜ Good (now samples) smoothing r ⌝ }
+    requires { ⌜ r .at .k < length (now samples) ⌝ }
+    ensures { λ b. ⌜ b ≡ test4 (dataOf (now (samples .entry)) smoothing) (stateOf r) ⌝ }
+{
+    let at = r.at;
+    let max = r.max;
+    let t = ahead(samples, smoothing, at);
+    let low = t.low;
+    below(max, low)
+}
+
+// Steps 5 and 6.
+fn more(samples: &[i32], smoothing: u64, r: Run) -> Run
+    requires { ⌜ Within (now samples) smoothing ⌝ }
+    requires { ⌜ Good (now samples) smoothing r ⌝ }
+    requires { ⌜ r .at .k < length (now samples) ⌝ }
+    ensures { λ q. ⌜ stateOf q ≡ moreOf (now (samples .entry)) smoothing r ⌝ }
+{
+    let old = r.at;
+    let min = r.min;
+    let max = r.max;
+    let t = ahead(samples, smoothing, old);
+    let at = t.at;
+    let low = t.low;
+    let high = t.high;
+    Run {
+        i: r.i,
+        at,
+        min: choose(below(low, min), min, low),
+        max: choose(below(max, high), max, high),
+    }
+}
+
+// Steps 3 to 7, until a segment ends.
+fn scan(samples: &[i32], smoothing: u64, from: Run) -> Halt
+    requires { ⌜ Within (now samples) smoothing ⌝ }
+    requires { ⌜ Good (now samples) smoothing from ⌝ }
+    ensures { λ h. ⌜ Scanned (now (samples .entry)) smoothing from h ⌝ }
+{
+    let mut r = from;
+    while r.at.k < samples.len() {
+        if falls(samples, smoothing, r) {
+            return Halt::Fall(r);
+        }
+        if rises(samples, smoothing, r) {
+            return Halt::Rise(r);
+        }
+        r = more(samples, smoothing, r);
+    }
+    Halt::End(r)
+}
+
+// Steps 8 to 10. Step 2 is step 10 at a segment of one minute.
+fn finish(samples: &[i32], smoothing: u64, r: Run) -> Next
+    requires { ⌜ Within (now samples) smoothing ⌝ }
+    requires { ⌜ Good (now samples) smoothing r ⌝ }
+    requires { ⌜ r .at .k ≡ length (now samples) ⌝ }
+    ensures { λ n. ⌜ Advanced (now (samples .entry)) smoothing r n ⌝ }
+{
+    let at = r.at;
+    let min = r.min;
+    let max = r.max;
+    // step 8: the upper bound stays
+    if below(at, min) {
+        let f = fall(samples, smoothing, min.k);
+        let f_at = f.at;
+        let f_min = f.min;
+        return Next::Emit(
+            cut(r.i, min),
+            Run {
+                i: f.i,
+                at: f_at,
+                min: f_min,
+                max,
+            },
+        );
+    }
+    // step 9: the lower bound stays
+    if below(max, at) {
+        let f = rise(samples, smoothing, max.k);
+        let f_at = f.at;
+        let f_max = f.max;
+        return Next::Emit(
+            cut(r.i, max),
+            Run {
+                i: f.i,
+                at: f_at,
+                min,
+                max: f_max,
+            },
+        );
+    }
+    // step 10
+    Next::Last(cut(r.i, at))
+}
+
+// The segment that begins where a run does.
+pub fn advance(samples: &[i32], smoothing: u64, from: Run) -> Next
+    requires { ⌜ Within (now samples) smoothing ⌝ }
+    requires { ⌜ Good (now samples) smoothing from ⌝ }
+    ensures { λ n. ⌜ Advanced (now (samples .entry)) smoothing from n ⌝ }
+{
+    match scan(samples, smoothing, from) {
+        Halt::Fall(r) => {
+            let min = r.min;
+            Next::Emit(cut(r.i, min), fall(samples, smoothing, min.k))
+        }
+        Halt::Rise(r) => {
+            let max = r.max;
+            Next::Emit(cut(r.i, max), rise(samples, smoothing, max.k))
+        }
+        Halt::End(r) => finish(samples, smoothing, r),
+    }
+}

@@ -1,0 +1,89 @@
+// The dual along a line, written minute by minute.
+
+ghost use mathlib.Core.Path.{_≡_};
+ghost use Prim.Native.Nat.{_≤_, _<_};
+ghost use lib.ListN.{length, getD};
+ghost use lib.Seq.{sets};
+ghost use lib.IntN.{pos};
+ghost use Rattle.integers.specs.Bounds.{Upto};
+ghost use Rattle.optimality.specs.Limits.{Slight};
+ghost use Rattle.optimality.specs.Machine.{plain-line};
+ghost use Rattle.denoise.specs.Limits.{overwrite};
+ghost use Rattle.denoise.specs.Dual.{duals};
+ghost use Rattle.denoise.specs.Run.{Within};
+ghost use Rattle.denoise.specs.Trace.{Steady, Fills, minuteOf, filledOf, markOf};
+use super::steps;
+use super::steps::Mark;
+use super::steps::Next;
+use super::steps::Piece;
+
+// Inside a segment: v is the dual after minute k times the segment's n, and u the dual at the segment's start plus its samples up to k.
+pub struct Dual {
+    pub k: usize,
+    pub v: i64,
+    pub u: i64,
+}
+
+// The dual, all along the line.
+pub fn trace(samples: &[i32], smoothing: u64, out: &mut [i64])
+    requires { ⌜ Within (now samples) smoothing ⌝ }
+    requires { ⌜ length (now samples) ≤ length (now out) ⌝ }
+    ensures { λ _. ⌜ now (out .exit) ≡ overwrite (duals (pos 0) (now (samples .entry)) (plain-line (pos smoothing) (now (samples .entry)))) (now (out .entry)) ⌝ }
+{
+    let mut m = Mark { i: 0, u: 0 };
+    let mut r = steps::begin(samples, smoothing, m);
+    loop {
+        match steps::advance(samples, smoothing, r) {
+            Next::Emit(p, next) => {
+                m = fill(samples, m, p, out);
+                r = next;
+            }
+            Next::Last(p) => {
+                fill(samples, m, p, out);
+                return;
+            }
+        }
+    }
+}
+
+// The dual along the segment p that begins at a mark; the mark where it ends.
+fn fill(samples: &[i32], m: Mark, p: Piece, out: &mut [i64]) -> Mark
+    requires { ⌜ Fills (now samples) m p ⌝ }
+    requires { ⌜ length (now samples) ≤ length (now out) ⌝ }
+    ensures { λ r. ⌜ r ≡ markOf (now (samples .entry)) m p ⌝ }
+    ensures { λ r. ⌜ now (out .exit) ≡ sets (now (out .entry)) (m .i) (filledOf (now (samples .entry)) m p) ⌝ }
+{
+    let end = m.i + p.len;
+    let mut d = Dual {
+        k: m.i,
+        v: p.n * m.u,
+        u: m.u,
+    };
+    while d.k < end {
+        let k = d.k;
+        d = minute(samples, p, d);
+        let v = d.v;
+        out[k] = v;
+    }
+    Mark {
+        i: end,
+        u: d.u - p.total,
+    }
+}
+
+// One minute more: u[k] = u[k - 1] + y[k] - x[k], times n.
+fn minute(samples: &[i32], p: Piece, d: Dual) -> Dual
+    requires { ⌜ Slight (p .total) (p .n) ⌝ }
+    requires { ⌜ Steady d ⌝ }
+    requires { ⌜ d .k < length (now samples) ⌝ }
+    requires { ⌜ Upto 16777216 (getD (now samples) (d .k) (pos 0)) ⌝ }
+    ensures { λ r. ⌜ r ≡ minuteOf (now (samples .entry)) p d ⌝ }
+{
+    let k = d.k;
+    let y = samples[k] as i64;
+    Dual {
+        k: k + 1,
+        v: d.v + (p.n * y - p.total),
+        u: d.u + y,
+    }
+}

@@ -1,0 +1,200 @@
+#include "paper.h"
+
+#include <string.h>
+
+typedef __int128 wide;
+
+i64 refusal(i64 number, i64 place)
+{
+    return -(256 * place + number);
+}
+
+/* ---- the check, from the paper: 1, 2, 4, 3, 6, 7, 8, 9. Lists of unequal length are given by the count of totals */
+i64 paper_limits(const int32_t *y, size_t n, uint64_t lambda)
+{
+    if (n == 0)
+        return refusal(1, 0);
+    if (n > MOST)
+        return refusal(2, 0);
+    if (lambda > SMOOTHEST)
+        return refusal(4, 0);
+    for (size_t i = 0; i < n; i++)
+        if (y[i] < -LIMIT || y[i] > LIMIT)
+            return refusal(3, (i64)i + 1);
+    return 0;
+}
+
+static int order(uint32_t la, i64 ta, uint32_t lb, i64 tb)
+{
+    wide d = (wide)ta * lb - (wide)tb * la;
+    return (d > 0) - (d < 0);
+}
+
+i64 paper_check(const int32_t *y, size_t n, uint64_t lambda, const uint32_t *length, size_t lengths, const i64 *total, size_t totals)
+{
+    i64 r = paper_limits(y, n, lambda);
+    if (r)
+        return r;
+    if (lengths == 0 || lengths != totals)
+        return refusal(6, 0);
+    wide sum = 0;
+    for (size_t s = 0; s < lengths; s++) {
+        if (length[s] == 0)
+            return refusal(6, (i64)s + 1);
+        sum += length[s];
+    }
+    if (sum != (wide)n)
+        return refusal(6, 0);
+    for (size_t s = 0; s < lengths; s++)
+        if (total[s] > (wide)length[s] * LIMIT || total[s] < -(wide)length[s] * LIMIT)
+            return refusal(7, (i64)s + 1);
+    for (size_t s = 1; s < lengths; s++)
+        if (order(length[s - 1], total[s - 1], length[s], total[s]) == 0)
+            return refusal(8, (i64)s + 1);
+    /* u[k] as a fraction over the length of the segment that holds minute k; before a segment it is the whole u */
+    wide u_top = 0, u_under = 1;
+    size_t k = 0;
+    for (size_t s = 0; s < lengths; s++) {
+        wide l = length[s];
+        /* u before the segment, over l: u_top / u_under must be whole where it is used, which the tests below see to */
+        wide v = u_top * l / u_under;
+        for (uint32_t i = 0; i < length[s]; i++, k++) {
+            v += l * y[k] - total[s];
+            wide bound = (wide)lambda * l;
+            int bad;
+            if (k + 1 == n)
+                bad = v != 0;
+            else if (i + 1 == length[s]) {
+                int up = order(length[s], total[s], length[s + 1], total[s + 1]) < 0;
+                bad = v != (up ? -bound : bound);
+            } else
+                bad = v < -bound || v > bound;
+            if (bad)
+                return refusal(9, (i64)k + 1);
+        }
+        u_top = v;
+        u_under = l;
+    }
+    return 0;
+}
+
+/* ---- the line of a short series: the pattern of rises, falls and flats that meets the conditions; there must be just one */
+int paper_line_short(const int32_t *y, size_t n, uint64_t lambda, Line *out)
+{
+    int found = 0;
+    size_t patterns = 1;
+    for (size_t i = 1; i < n; i++)
+        patterns *= 3;
+    for (size_t p = 0; p < patterns; p++) {
+        struct {
+            size_t n;
+            uint32_t length[6];
+            i64 total[6];
+        } c = {.n = 0};
+        i64 u = 0, sum = 0;
+        uint32_t length = 0;
+        size_t rest = p;
+        for (size_t k = 0; k < n; k++) {
+            sum += y[k];
+            length++;
+            size_t turn = k + 1 < n ? rest % 3 : 3; /* 0 flat, 1 rise, 2 fall, 3 the end */
+            rest /= 3;
+            if (turn == 0)
+                continue;
+            i64 after = turn == 1 ? -(i64)lambda : turn == 2 ? (i64)lambda : 0;
+            c.length[c.n] = length;
+            c.total[c.n] = u + sum - after;
+            c.n++;
+            u = after;
+            sum = 0;
+            length = 0;
+        }
+        if (paper_check(y, n, lambda, c.length, c.n, c.total, c.n) == 0) {
+            /* without smoothing a rise and a fall give the same line */
+            if (found && out->n == c.n && !memcmp(out->length, c.length, c.n * sizeof c.length[0]) && !memcmp(out->total, c.total, c.n * sizeof c.total[0]))
+                continue;
+            found++;
+            out->n = c.n;
+            memcpy(out->length, c.length, c.n * sizeof c.length[0]);
+            memcpy(out->total, c.total, c.n * sizeof c.total[0]);
+        }
+    }
+    return found == 1;
+}
+
+/* ---- the line of a long series: the taut string through the tube of half width lambda around the running sums, 0 at both ends. The least
+ * concave majorant of the tube's floor and the greatest convex minorant of its roof, both from the last knot, are kept as hulls */
+typedef struct {
+    size_t first, last;
+    i64 x[MOST + 2], z[MOST + 2];
+} Hull;
+
+/* the hull bends the wrong way at its last point, seen from (x, z) */
+static int bends(const Hull *h, i64 x, i64 z, int sign)
+{
+    wide before = (wide)(h->z[h->last] - h->z[h->last - 1]) * (x - h->x[h->last]);
+    wide after = (wide)(z - h->z[h->last]) * (h->x[h->last] - h->x[h->last - 1]);
+    return sign * (before - after) <= 0;
+}
+
+static void extend(Hull *h, i64 x, i64 z, int sign)
+{
+    while (h->last > h->first && bends(h, x, z, sign))
+        h->last--;
+    h->last++;
+    h->x[h->last] = x;
+    h->z[h->last] = z;
+}
+
+static void emit(Line *out, i64 length, i64 total)
+{
+    out->length[out->n] = (uint32_t)length;
+    out->total[out->n] = total;
+    out->n++;
+}
+
+/* where the one hull is a single edge to (x, z), the string may follow the other hull's first edges */
+static void follow(Hull *one, Hull *other, i64 x, i64 z, int sign, Line *out)
+{
+    if (one->last != one->first + 1)
+        return;
+    while (other->last > other->first + 1) {
+        size_t f = other->first;
+        wide direct = (wide)(z - other->z[f]) * (other->x[f + 1] - other->x[f]);
+        wide edge = (wide)(other->z[f + 1] - other->z[f]) * (x - other->x[f]);
+        if (sign * (direct - edge) <= 0)
+            return;
+        emit(out, other->x[f + 1] - other->x[f], other->z[f + 1] - other->z[f]);
+        other->first++;
+        one->x[one->first] = other->x[f + 1];
+        one->z[one->first] = other->z[f + 1];
+    }
+}
+
+void paper_line_long(const int32_t *y, size_t n, uint64_t lambda, Line *out)
+{
+    static Hull floor, roof;
+    floor.first = floor.last = roof.first = roof.last = 0;
+    floor.x[0] = roof.x[0] = floor.z[0] = roof.z[0] = 0;
+    out->n = 0;
+    i64 sum = 0;
+    for (size_t k = 1; k <= n; k++) {
+        sum += y[k - 1];
+        i64 w = k < n ? (i64)lambda : 0;
+        extend(&floor, (i64)k, sum - w, 1);
+        extend(&roof, (i64)k, sum + w, -1);
+        follow(&floor, &roof, (i64)k, sum - w, 1, out);
+        follow(&roof, &floor, (i64)k, sum + w, -1, out);
+    }
+    Hull *h = floor.last - floor.first >= roof.last - roof.first ? &floor : &roof;
+    for (size_t f = h->first; f < h->last; f++)
+        emit(out, h->x[f + 1] - h->x[f], h->z[f + 1] - h->z[f]);
+}
+
+uint64_t next_number(uint64_t *state)
+{
+    *state ^= *state << 13;
+    *state ^= *state >> 7;
+    *state ^= *state << 17;
+    return *state * 0x2545f4914f6cdd1du >> 11;
+}
