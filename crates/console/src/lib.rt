@@ -4,10 +4,12 @@ ghost use mathlib.Core.Path.{_≡_};
 ghost use Rattle.denoise.specs.Line.{lineOf, lengthsOf, totalsOf};
 ghost use Rattle.denoise.specs.Dual.{balancesOf, balancesAfter};
 ghost use Rattle.denoise.specs.Check.{checkOf};
+ghost use Rattle.sheet.specs.Complete.{completeOf, completedAfter};
 ghost use Rattle.console.specs.Code.{refusal, code, code-of-none};
 use denoise::Checked;
 use denoise::Drawn;
 use denoise::Filled;
+use sheet::Written;
 
 // Minus (256 times the place, plus the number).
 fn refusal(number: u32, place: usize) -> i64
@@ -58,5 +60,16 @@ pub extern "C" fn series_check(
     match denoise::check(samples, smoothing, lengths, totals) {
         Checked::Passed => 0,
         Checked::Refused(number, place) => refusal(number, place),
+    }
+}
+
+#[no_mangle]
+pub extern "C" fn sheet_complete(sheet: &[u8], out: &mut [u8]) -> i64
+    ensures { λ r. ⌜ r ≡ code (completeOf (now (sheet .entry)) (now (out .entry))) ⌝ }
+    ensures { λ r. ⌜ now (out .exit) ≡ completedAfter (now (sheet .entry)) (now (out .entry)) ⌝ }
+{
+    match sheet::complete(sheet, out) {
+        Written::Bytes(bytes) => bytes as i64,
+        Written::Refused(number, place) => refusal(number, place),
     }
 }

@@ -22,7 +22,7 @@ use Rattle.optimality.specs.Plain.{plain-positive, length-plain, segments, plai
 use Rattle.optimality.specs.Unique.{unique}
 use Rattle.optimality.specs.Correct.{plain-correct}
 use Rattle.level.specs.Answer.{Answer, refused, given, refuse-at}
-use Rattle.denoise.specs.Limits.{first-from, first, bad-sample}
+use Rattle.denoise.specs.Limits.{first-from, first, bad-sample, in-limits}
 use Rattle.denoise.specs.Shape.{sum, beyond, equal-levels, equal-from}
 use Rattle.denoise.specs.Check.{checkOf}
 use Rattle.denoise.specs.Walk.{segment}
@@ -47,6 +47,16 @@ none-bad : (ys : List ℤ) (i : ℕ) → Bounded 16777216 (plain ys) → first-f
 unfolding Bounded plain first-from
 none-bad [] i h = refl
 none-bad (y ∷ ys) i h = rw (le-ltb 16777216 (natAbs y) (h .0)) (none-bad ys (suc i) (h .1))
+
+-- an answer that 1, 2, 4 and 3 are not comes after them
+pub limits-past : (ys : List ℤ) (L : ℕ) {A : Type 0} {x a : Answer A} → ((number place : ℕ) → number < 9 → refused number place ≡ a → ⊥) → in-limits ys L x ≡ a → Limited ys L × (x ≡ a)
+limits-past ys L n e =
+    let e1 = if-past (eqb (length ys) 0) (n 1 0 (omega arith)) e in
+    let e2 = if-past (ltb 65536 (length ys)) (n 2 0 (omega arith)) (e1 .1) in
+    let e4 = if-past (ltb 1099511627776 L) (n 4 0 (omega arith)) (e2 .1) in
+    let e3 = at-past (first bad-sample ys) (λ p. n 3 p (omega arith)) (e4 .1) in
+    let k = eqb-false (length ys) 0 (e1 .0) in
+    (record { some = omega arith; few = ltb-false _ _ (e2 .0); smooth = ltb-false _ _ (e4 .0); samples = bounded ys 1 (e3 .0) }, e3 .1)
 
 -- ---- the form of a line
 lengths-sum : (ns : List ℕ) (ts : List ℤ) → length ns ≡ length ts → lengths (segments ns ts) ≡ sum ns
@@ -118,19 +128,15 @@ module _ (ys : List ℤ) (L : ℕ) (ns : List ℕ) (ts : List ℤ) where
 
   reaches : (a : Answer (Unit {0})) → ((number place : ℕ) → number < 9 → refused number place ≡ a → ⊥) → checkOf ys L ns ts ≡ a → Proposed × (end ≡ a)
   reaches a n e =
-      let e1 = if-past (eqb (length ys) 0) (n 1 0 (omega arith)) e in
-      let e2 = if-past (ltb 65536 (length ys)) (n 2 0 (omega arith)) (e1 .1) in
-      let e4 = if-past (ltb 1099511627776 L) (n 4 0 (omega arith)) (e2 .1) in
-      let e3 = at-past (first bad-sample ys) (λ p. n 3 p (omega arith)) (e4 .1) in
+      let e3 = limits-past ys L n e in
       let e6 = if-past (eqb (length ns) 0 || not (eqb (length ns) (length ts))) (n 6 0 (omega arith)) (e3 .1) in
       let z = at-past (first (λ m. eqb m 0) ns) (λ p. n 6 p (omega arith)) (e6 .1) in
       let m = if-past (not (eqb (sum ns) (length ys))) (n 6 0 (omega arith)) (z .1) in
       let e7 = at-past (first beyond ss) (λ p. n 7 p (omega arith)) (m .1) in
       let e8 = at-past (equal-from 1 ss) (λ p. n 8 p (omega arith)) (e7 .1) in
-      let l = pair (length ns) (length ts) (e6 .0) in
-      let k = eqb-false (length ys) 0 (e1 .0) in (
+      let l = pair (length ns) (length ts) (e6 .0) in (
         record {
-          limited = record { some = omega arith; few = ltb-false _ _ (e2 .0); smooth = ltb-false _ _ (e4 .0); samples = bounded ys 1 (e3 .0) };
+          limited = e3 .0;
           pairs = l;
           formed = plain-formed ys ns ts (proper ns ts 1 1 (z .0) (e8 .0)) (lengths-sum ns ts l ∙ eqb-true _ _ (not-false _ (m .0)));
           totals = within ns ts 1 (e7 .0);

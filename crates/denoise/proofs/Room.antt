@@ -1,16 +1,13 @@
 -- Within the limits each number that a step forms is small.
-use mathlib.Core.Path.{_≡_}
 use mathlib.Core.Bool.{false}
 use native.Mathlib.Omega.{arith}
 use mathlib.Core.List.{List}
 use Prim.Native.Nat.{ℕ, _<_, _≤_}
 use lib.ListN.{length, getD}
 use lib.IntN.{ℤ, pos}
-use mir.Syntax.{w64}
-use mir.Val.{toZ}
 use Rattle.integers.specs.Order.{_⩽_}
 use Rattle.integers.specs.Linear.{int}
-use Rattle.integers.specs.Bounds.{Upto, Atmost, cleaning, clean}
+use Rattle.integers.specs.Bounds.{Upto}
 use Rattle.optimality.specs.Machine.{more}
 use Rattle.optimality.specs.Tests.{U′, n′}
 use Rattle.optimality.specs.Tube.{Right, plain-right}
@@ -27,10 +24,6 @@ module _ (ys : List ℤ) (smoothing : ℕ) (W : Within ys smoothing) where
 
   pub most : smoothing ≤ 1099511627776
   most = W .limited .smoothing .upto
-
-  -- the smoothing as a signed number
-  pub lambda : toZ w64 smoothing ≡ pos smoothing
-  lambda = let l : Atmost 1099511627776 smoothing = record { atmost = most } in clean (search cleaning depth 12) tt
 
   module _ (r : Run) (G : Good ys smoothing r) where
     room : Limits.Room (pos smoothing) ys (stateOf r)

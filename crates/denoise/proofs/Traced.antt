@@ -6,18 +6,20 @@ use Prim.Native.Nat.{ℕ, suc, _+_, _<_, _≤_}
 use lib.ListN.{length, take, drop, set, length-append, length-take, length-drop}
 use lib.Seq.{sets, length-sets, drop-drop, length-take-le}
 use lib.IntN.{ℤ, pos, natAbs, _+ℤ_, _-ℤ_}
+use Rattle.integers.specs.Order.{_⋖_}
 use Rattle.integers.specs.Sums.{sumZ}
 use Rattle.optimality.specs.Segments.{Segment, by-divisor, then-v}
+use Rattle.optimality.specs.Limits.{Slight}
 use Rattle.optimality.specs.Series.{plain-minute}
 use Rattle.optimality.specs.Machine.{begin, plain-line}
 use Rattle.denoise.specs.Limits.{overwrite}
 use Rattle.denoise.specs.Dual.{duals-inside, duals}
-use Rattle.denoise.specs.Run.{Within, Good, Emits, Stops, dataOf, stateOf, segmentOf, rest}
+use Rattle.denoise.specs.Run.{Within, Good, Turns, Emits, Stops, dataOf, stateOf, segmentOf, rest}
 use Rattle.denoise.specs.Trace.{Fills, filledOf, markOf, minutes}
 use Rattle.denoise.specs.declared.steps.Run.{Run}
 use Rattle.denoise.specs.declared.steps.Mark.{Mark}
 use Rattle.denoise.specs.declared.steps.Piece.{Piece}
-use Rattle.denoise.proofs.Turn.{begins}
+use Rattle.denoise.proofs.Turn.{Goes, begins}
 use Rattle.denoise.proofs.Written.{whole, sets-overwrite}
 use Rattle.denoise.proofs.Tame.{Tame, line-tame}
 
@@ -57,6 +59,10 @@ module _ (ys : List ℤ) (smoothing : ℕ) (out₀ : List ℤ) where
       let w = whole ys smoothing W r e in
       record { good = begins ys smoothing W r 0 (pos 0) (W .some) (omega arith) e; at = sym i; short = omega (arith, W .some); long = refl; tame = rw w (line-tame ys smoothing W); left = rw w }
 
+  -- a minute more
+  pub traced-on : {out : List ℤ} {m : Mark} {r : Run} → Traced out m r → (W : Within ys smoothing) (q : Run) → Goes ys smoothing W r q → Traced out m q
+  traced-on K W q G = record { good = G .good; at = K .at ∙ sym (G .same); short = rw (G .same) (K .short); long = K .long; tame = rw (G .rest) (K .tame); left = rw (G .rest) (K .left) }
+
   module _ (W : Within ys smoothing) {out : List ℤ} {m : Mark} {r : Run} (K : Traced out m r) (p : Piece) where
     filled-long : m .i + p .len ≤ length ys → length (filledOf ys m p) ≡ p .len
     filled-long h = inside-long (segmentOf p) (by-divisor (segmentOf p) (m .u)) (minutes ys m p) ∙ length-take-le (p .len) (drop (m .i) ys) (simp length-drop (omega arith))
@@ -79,13 +85,20 @@ module _ (ys : List ℤ) (smoothing : ℕ) (out₀ : List ℤ) where
           ∙ sets-append out (m .i) (filledOf ys m p) _
           ∙ rw (filled-long h, drop-drop)
 
+    -- p may be filled in
+    fills : {l : List Segment} → rest ys smoothing r ≡ segmentOf p ∷ l → m .i + p .len ≤ length ys → pos 0 ⋖ p .n → Slight (p .total) (p .n) → Fills ys m p
+    fills e h a b = record { minutes = W .limited .minutes; samples = W .limited .samples; upto = h; dual = record { upto = omega (arith, before e, W .limited .smoothing .upto) }; above = a; small = b }
+
+    pub turn-fills : {k : Mark} → Turns ys smoothing r p k → Fills ys m p
+    turn-fills T = fills (T .rest) (omega (arith, K .at, T .long, T .further, T .short)) (T .above) (T .small)
+
     -- a segment more
     module _ {q : Run} (E : Emits ys smoothing r p q) where
-      abbrev room : m .i + p .len ≡ q .i
+      room : m .i + p .len ≡ q .i
       room = omega (arith, K .at, E .long, E .further)
 
       pub emit-fills : Fills ys m p
-      emit-fills = record { minutes = W .limited .minutes; samples = W .limited .samples; upto = omega (arith, room, E .short); dual = record { upto = omega (arith, before (E .rest), W .limited .smoothing .upto) }; above = E .above; small = E .small }
+      emit-fills = fills (E .rest) (omega (arith, room, E .short)) (E .above) (E .small)
 
       pub traced-turn : Traced (sets out (m .i) (filledOf ys m p)) (markOf ys m p) q
       traced-turn = record {
@@ -100,7 +113,7 @@ module _ (ys : List ℤ) (smoothing : ℕ) (out₀ : List ℤ) where
     -- the last one
     module _ (S : Stops ys smoothing r p) where
       pub stop-fills : Fills ys m p
-      stop-fills = record { minutes = W .limited .minutes; samples = W .limited .samples; upto = omega (arith, K .at, S .long, S .short); dual = record { upto = omega (arith, before (S .rest), W .limited .smoothing .upto) }; above = S .above; small = S .small }
+      stop-fills = fills (S .rest) (omega (arith, K .at, S .long, S .short)) (S .above) (S .small)
 
       pub traced-end : length ys ≤ length out₀ → sets out (m .i) (filledOf ys m p) ≡ overwrite (duals (pos 0) ys line) out₀
       unfolding duals

@@ -1,23 +1,23 @@
 -- The machine's steps, told of runs: one minute more, and the segments that end.
-use mathlib.Core.Path.{_≡_, refl, sym, _∙_, ap, subst}
+use mathlib.Core.Path.{_≡_, sym, _∙_, ap, subst}
 use mathlib.Core.Bool.{true, false}
-use mathlib.Core.List.{List}
+use mathlib.Core.List.{List, _∷_}
 use native.Mathlib.Omega.{arith}
-use Prim.Native.Nat.{ℕ, suc, _<_, _≤_}
+use Prim.Native.Nat.{ℕ, _<_, _≤_}
 use lib.ListN.{length}
 use lib.IntN.{ℤ, pos, negℤ, natAbs, _-ℤ_, +ℤ-idr}
 use Rattle.integers.specs.Order.{_⋖_}
+use Rattle.integers.specs.Bounds.{Upto}
 use Rattle.optimality.specs.Segments.{Segment}
 use Rattle.optimality.specs.Machine.{Increments, State, Out, on, emit, stop, follow, begin, step, keep-min, keep-max}
 use Rattle.optimality.specs.Tests.{test3, test4, step-inside, step-final}
-use Rattle.optimality.specs.Sound.{Sound, Facts, After, facts, begin-sound, step-after, lines, lines-step}
+use Rattle.optimality.specs.Sound.{Sound, Facts, left, After, facts, begin-sound, step-after, lines, lines-step}
 use Rattle.optimality.specs.Limits.{SmallAfter, Slight, Small, begin-small, step-small}
-use Rattle.denoise.specs.Run.{Within, Good, Onward, Emits, Stops, Advanced, dataOf, stateOf, segmentOf, cutOf, moreOf, belowOf}
+use Rattle.denoise.specs.Run.{Within, Good, Turns, Emits, Stops, dataOf, rest, stateOf, segmentOf, cutOf, moreOf, belowOf}
 use Rattle.denoise.specs.declared.steps.Run.{Run}
+use Rattle.denoise.specs.declared.steps.Mark.{Mark}
 use Rattle.denoise.specs.declared.steps.Piece.{Piece}
-use Rattle.denoise.specs.declared.steps.Next.{Next}
-use Rattle.denoise.specs.declared.steps.Next.the-variants as Next
-use Rattle.denoise.proofs.Room.{smooth, right}
+use Rattle.denoise.proofs.Room.{smooth, right, most}
 
 none-z : (x : ℤ) → x -ℤ pos 0 ≡ x
 none-z x = +ℤ-idr x
@@ -52,6 +52,13 @@ module _ (ys : List ℤ) (smoothing : ℕ) (W : Within ys smoothing) where
   abbrev δ : Increments
   δ = dataOf ys smoothing
 
+  -- q is what r comes to by one minute more
+  pub record Goes (r q : Run) : Type 0 where
+    pub good : Good ys smoothing q
+    pub same : q .i ≡ r .i
+    pub less : left δ (stateOf q) < left δ (stateOf r)
+    pub rest : rest ys smoothing q ≡ rest ys smoothing r
+
   module _ {r : Run} (G : Good ys smoothing r) where
     after : (o : Out) → step δ (stateOf r) ≡ o → After δ (stateOf r) o
     after o e = subst (After δ (stateOf r)) e (step-after δ (right ys smoothing W) (G .sound))
@@ -74,28 +81,35 @@ module _ (ys : List ℤ) (smoothing : ℕ) (W : Within ys smoothing) where
         let o = emit (segmentOf p) (stateOf q) in
         let e : step δ (stateOf r) ≡ o = f ∙ ap (emit (segmentOf p)) (sym g) in
         let A = after o e in
-        record { good = record { sound = A .sound; small = small-after o e }; further = A .further; short = A .short; long = A .long; above = a; small = b; rest = told o e }
+        record { good = record { sound = A .sound; small = small-after o e }; further = A .further; short = A .short; less = A .less; long = A .long; above = a; small = b; rest = told o e }
+
+    pub turns : (p : Piece) (m : Mark) → pos 0 ⋖ p .n → Slight (p .total) (p .n) → natAbs (m .u) ≤ smoothing → step δ (stateOf r) ≡ emit (segmentOf p) (begin δ (m .i) (m .u)) → Turns ys smoothing r p m
+    turns p m a b h e =
+        let o = emit (segmentOf p) (begin δ (m .i) (m .u)) in
+        let A = after o e in
+        record { further = A .further; short = A .short; dual = h; less = A .less; long = A .long; above = a; small = b; rest = told o e }
 
     pub stops : (p : Piece) → pos 0 ⋖ p .n → Slight (p .total) (p .n) → step δ (stateOf r) ≡ stop (segmentOf p) → Stops ys smoothing r p
     stops p a b e =
         let o = stop (segmentOf p) in
         record { short = omega (arith, known .from, known .upto); long = after o e; above = a; small = b; rest = told o e }
 
+    -- one minute more
+    pub goes-on : {q : Run} → step δ (stateOf r) ≡ on (stateOf q) → Goes r q
+    goes-on {q} e =
+        let o = on (stateOf q) in
+        let A = after o e in
+        record { good = record { sound = A .sound; small = small-after o e }; same = A .same; less = A .less; rest = sym (told o e) }
+
   -- a segment begins
   pub begins : (r : Run) (i : ℕ) (u : ℤ) → i < length ys → natAbs u ≤ smoothing → stateOf r ≡ begin δ i u → Good ys smoothing r
   begins r i u h k e = record { sound = subst (Sound δ) (sym e) (begin-sound δ (right ys smoothing W) i u h); small = subst (Small (pos smoothing) ys) (sym e) (begin-small (pos smoothing) ys (W .some) (smooth ys smoothing W) (W .limited) i u k h) }
 
-  -- ---- from a run to what it comes to
-  pub stays : {r : Run} → Good ys smoothing r → Onward ys smoothing r r
-  stays G = record { good = G; same = refl; rest = refl }
+  -- at a mark: what `begin` asks, and what comes after it
+  pub marked : {from : Run} {p : Piece} {m : Mark} → Turns ys smoothing from p m → Within ys smoothing × ((m .i < length ys) × Upto 1099511627776 (m .u))
+  marked T = (W, (T .short, record { upto = omega (arith, T .dual, most ys smoothing W) }))
 
-  module _ {from r : Run} (O : Onward ys smoothing from r) where
-    pub goes-on : {q : Run} → step δ (stateOf r) ≡ on (stateOf q) → Onward ys smoothing from q × (q .at .k ≡ suc (r .at .k))
-    goes-on {q} e =
-        let o = on (stateOf q) in
-        let A = after (O .good) o e in
-        (record { good = record { sound = A .sound; small = small-after (O .good) o e }; same = A .same ∙ O .same; rest = sym (told (O .good) o e) ∙ O .rest }, A .one)
-
-    pub since : (n : Next) → Advanced ys smoothing r n → Advanced ys smoothing from n
-    since (Next.Emit p q) E = record { good = E .good; further = rw (← (O .same)) (E .further); short = E .short; long = rw (← (O .same)) (E .long); above = E .above; small = E .small; rest = sym (O .rest) ∙ E .rest }
-    since (Next.Last p) E = record { short = rw (← (O .same)) (E .short); long = rw (← (O .same)) (E .long); above = E .above; small = E .small; rest = sym (O .rest) ∙ E .rest }
+  pub restarts : {from q : Run} {p : Piece} {m : Mark} → Turns ys smoothing from p m → stateOf q ≡ begin δ (m .i) (m .u) → Emits ys smoothing from p q
+  restarts {from} {q} {p} {m} T e =
+      let i : q .i ≡ m .i = ap (λ s. s .i) e in
+      record { good = begins q (m .i) (m .u) (T .short) (T .dual) e; further = rw i (T .further); short = rw i (T .short); less = rw e (T .less); long = rw i (T .long); above = T .above; small = T .small; rest = T .rest ∙ ap (λ s. segmentOf p ∷ lines δ s) (sym e) }

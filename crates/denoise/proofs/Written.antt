@@ -16,7 +16,7 @@ use Rattle.denoise.specs.Run.{Within, Good, Emits, Stops, dataOf, stateO
 use Rattle.denoise.specs.declared.steps.Run.{Run}
 use Rattle.denoise.specs.declared.steps.Piece.{Piece}
 use Rattle.denoise.proofs.Room.{right}
-use Rattle.denoise.proofs.Turn.{begins}
+use Rattle.denoise.proofs.Turn.{Goes, begins}
 
 -- as many stores as there is room for
 pub sets-overwrite : {A : Type 0} (new old : List A) → length new ≤ length old → sets old 0 new ≡ overwrite new old
@@ -71,6 +71,19 @@ module _ (ys : List ℤ) (smoothing : ℕ) where
       totals-long = simp length-set (K .totals-long);
       lengths-left = rw (add-one m) (sym (ap (λ l. sets lengths m (map len-of l)) (E .rest)) ∙ K .lengths-left);
       totals-left = rw (add-one m) (sym (ap (λ l. sets totals m (map total-of l)) (E .rest)) ∙ K .totals-left);
+    }
+
+    -- a minute more
+    pub kept-on : (W : Within ys smoothing) (q : Run) → Goes ys smoothing W r q → Kept lengths₀ totals₀ lengths totals m q
+    kept-on W q G = record {
+      good = G .good;
+      few = rw (G .same) (K .few);
+      short = rw (G .same) (K .short);
+      count = rw (G .rest) (K .count);
+      lengths-long = K .lengths-long;
+      totals-long = K .totals-long;
+      lengths-left = rw (G .rest) (K .lengths-left);
+      totals-left = rw (G .rest) (K .totals-left);
     }
 
     -- the last one

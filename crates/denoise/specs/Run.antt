@@ -1,25 +1,24 @@
 -- The code's structs as the states and segments of optimality's Machine, and what its functions keep and give.
 use mathlib.Core.Path.{_≡_}
-use mathlib.Core.Bool.{Bool, true, false}
+use mathlib.Core.Bool.{Bool}
 use mathlib.Core.List.{List, [], _∷_}
-use Prim.Native.Nat.{ℕ, suc, _-_, _<_}
+use Prim.Native.Nat.{ℕ, suc, _-_, _<_, _≤_}
 use lib.ListN.{length, getD}
-use lib.IntN.{ℤ, pos, _+ℤ_, _*ℤ_, _-ℤ_}
+use lib.IntN.{ℤ, pos, negℤ, natAbs, _+ℤ_, _*ℤ_, _-ℤ_}
 use lib.Signed.{ltZ}
 use Rattle.integers.specs.Order.{_⋖_}
 use Rattle.integers.specs.Bounds.{Upto}
 use Rattle.optimality.specs.Segments.{Segment}
-use Rattle.optimality.specs.Machine.{Increments, plain-increments, State, segment, more}
-use Rattle.optimality.specs.Tests.{U′, n′, test3, test4, keeps-min, keeps-max}
-use Rattle.optimality.specs.Sound.{Sound, lines}
+use Rattle.optimality.specs.Machine.{Increments, plain-increments, State, segment, begin, more}
+use Rattle.optimality.specs.Tests.{U′, n′, keeps-min, keeps-max}
+use Rattle.optimality.specs.Sound.{Sound, left, lines}
 use Rattle.optimality.specs.Limits.{Limited, Slight}
 use Rattle.optimality.specs.Limits as Limits
 use Rattle.denoise.specs.declared.steps.Slope.{Slope}
 use Rattle.denoise.specs.declared.steps.Tube.{Tube}
 use Rattle.denoise.specs.declared.steps.Run.{Run}
+use Rattle.denoise.specs.declared.steps.Mark.{Mark}
 use Rattle.denoise.specs.declared.steps.Piece.{Piece}
-use Rattle.denoise.specs.declared.steps.Halt.{Halt}
-use Rattle.denoise.specs.declared.steps.Halt.the-variants as Halt
 use Rattle.denoise.specs.declared.steps.Next.{Next}
 use Rattle.denoise.specs.declared.steps.Next.the-variants as Next
 
@@ -48,6 +47,12 @@ aheadOf ys smoothing s =
 
 abbrev pub cutOf : ℕ → Slope → Piece
 cutOf i s = record { len = s .k - i; n = s .n; total = s .total }
+
+abbrev pub fallOf : ℕ → ℕ → Mark
+fallOf smoothing k = record { i = k; u = pos smoothing }
+
+abbrev pub riseOf : ℕ → ℕ → Mark
+riseOf smoothing k = record { i = k; u = negℤ (pos smoothing) }
 
 -- ---- states and segments
 abbrev pub stateOf : Run → State
@@ -96,37 +101,23 @@ module _ (ys : List ℤ) (smoothing : ℕ) where
   abbrev pub rest : Run → List Segment
   rest r = lines dataOf (stateOf r)
 
-  -- r is what the run `from` comes to before a segment ends
-  pub record Onward (from r : Run) : Type 0 where
-    pub good : Good r
-    pub same : r .i ≡ from .i
-    pub rest : rest r ≡ rest from
+  -- the run's next segment is p, and the one after it begins at m
+  pub record Turns (from : Run) (p : Piece) (m : Mark) : Type 0 where
+    pub further : from .i < m .i
+    pub short : m .i < length ys
+    pub dual : natAbs (m .u) ≤ smoothing
+    pub less : left dataOf (begin dataOf (m .i) (m .u)) < left dataOf (stateOf from)
+    pub long : p .len ≡ m .i - from .i
+    pub above : pos 0 ⋖ p .n
+    pub small : Slight (p .total) (p .n)
+    pub rest : rest from ≡ segmentOf p ∷ lines dataOf (begin dataOf (m .i) (m .u))
 
-  pub record Falls (from r : Run) : Type 0 where
-    pub onward : Onward from r
-    pub more : r .at .k < length ys
-    pub fires : test3 dataOf (stateOf r) ≡ true
-
-  pub record Rises (from r : Run) : Type 0 where
-    pub onward : Onward from r
-    pub more : r .at .k < length ys
-    pub passes : test3 dataOf (stateOf r) ≡ false
-    pub fires : test4 dataOf (stateOf r) ≡ true
-
-  pub record Ends (from r : Run) : Type 0 where
-    pub onward : Onward from r
-    pub all : r .at .k ≡ length ys
-
-  abbrev pub Scanned : Run → Halt → Type 0
-  Scanned from (Halt.Fall r) = Falls from r
-  Scanned from (Halt.Rise r) = Rises from r
-  Scanned from (Halt.End r) = Ends from r
-
-  -- the run's next segment is p
+  -- and the one after it is under construction in r
   pub record Emits (from : Run) (p : Piece) (r : Run) : Type 0 where
     pub good : Good r
     pub further : from .i < r .i
     pub short : r .i < length ys
+    pub less : left dataOf (stateOf r) < left dataOf (stateOf from)
     pub long : p .len ≡ r .i - from .i
     pub above : pos 0 ⋖ p .n
     pub small : Slight (p .total) (p .n)

@@ -25,17 +25,40 @@ pub fn draw(samples: &[i32], smoothing: u64, lengths: &mut [u32], totals: &mut [
     let mut m = 0;
     let mut r = steps::begin(samples, smoothing, Mark { i: 0, u: 0 });
     loop {
-        match steps::advance(samples, smoothing, r) {
-            Next::Emit(p, next) => {
-                write(p, m, lengths, totals);
-                m += 1;
-                r = next;
-            }
-            Next::Last(p) => {
-                write(p, m, lengths, totals);
-                return (m + 1) as u32;
+        // steps 8 to 10
+        while r.at.k >= samples.len() {
+            // a copy, so that r stays in registers
+            let q = r;
+            match steps::finish(samples, smoothing, q) {
+                Next::Emit(p, next) => {
+                    write(p, m, lengths, totals);
+                    m += 1;
+                    r = next;
+                }
+                Next::Last(p) => {
+                    write(p, m, lengths, totals);
+                    return (m + 1) as u32;
+                }
             }
         }
+        // step 3
+        if steps::falls(samples, smoothing, r) {
+            let c = steps::fall(samples, smoothing, r);
+            write(c.piece, m, lengths, totals);
+            m += 1;
+            r = steps::begin(samples, smoothing, c.mark);
+            continue;
+        }
+        // step 4
+        if steps::rises(samples, smoothing, r) {
+            let c = steps::rise(samples, smoothing, r);
+            write(c.piece, m, lengths, totals);
+            m += 1;
+            r = steps::begin(samples, smoothing, c.mark);
+            continue;
+        }
+        // steps 5 to 7
+        r = steps::more(samples, smoothing, r);
     }
 }
 

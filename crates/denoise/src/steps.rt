@@ -1,13 +1,14 @@
 // The ten steps of Condat 2013 in whole numbers, as optimality's Machine tells them: "step 3" is the paper's step 3.
 
 ghost use mathlib.Core.Path.{_≡_};
+ghost use mathlib.Core.Bool.{true, false};
 ghost use Prim.Native.Nat.{_≤_, _<_};
 ghost use lib.ListN.{length, getD};
-ghost use lib.IntN.{pos, negℤ};
+ghost use lib.IntN.{pos};
 ghost use Rattle.integers.specs.Bounds.{Upto};
 ghost use Rattle.optimality.specs.Machine.{begin, pick};
 ghost use Rattle.optimality.specs.Tests.{test3, test4};
-ghost use Rattle.denoise.specs.Run.{Small, Mid, Within, belowOf, aheadOf, cutOf, stateOf, dataOf, moreOf, Good, Scanned, Advanced};
+ghost use Rattle.denoise.specs.Run.{Small, Mid, Within, belowOf, aheadOf, cutOf, fallOf, riseOf, stateOf, dataOf, moreOf, Good, Turns, Advanced};
 
 // The level total / n. It leads from the start of the segment under construction to minute k.
 pub struct Slope {
@@ -45,14 +46,13 @@ pub struct Piece {
     pub total: i64,
 }
 
-// Why a scan halts: the segment ends by step 3 or by step 4, or no minute is left.
-pub enum Halt {
-    Fall(Run),
-    Rise(Run),
-    End(Run),
+// A segment that ends, and the mark where the next one begins.
+pub struct Ending {
+    pub piece: Piece,
+    pub mark: Mark,
 }
 
-// The next segment of the line, and what comes after it.
+// A segment that ends where no minute is left: another comes after it, or it is the last.
 pub enum Next {
     Emit(Piece, Run),
     Last(Piece),
@@ -125,36 +125,26 @@ pub fn begin(samples: &[i32], smoothing: u64, m: Mark) -> Run
     }
 }
 
-// The line falls after minute k.
-fn fall(samples: &[i32], smoothing: u64, k: usize) -> Run
-    requires { ⌜ Within (now samples) smoothing ⌝ }
-    requires { ⌜ k < length (now samples) ⌝ }
-    ensures { λ r. ⌜ stateOf r ≡ begin (dataOf (now (samples .entry)) smoothing) k (pos smoothing) ⌝ }
+// The mark where the line falls after minute k.
+fn after_fall(smoothing: u64, k: usize) -> Mark
+    requires { ⌜ smoothing ≤ 1099511627776 ⌝ }
+    ensures { λ r. ⌜ r ≡ fallOf smoothing k ⌝ }
 {
-    begin(
-        samples,
-        smoothing,
-        Mark {
-            i: k,
-            u: smoothing as i64,
-        },
-    )
+    Mark {
+        i: k,
+        u: smoothing as i64,
+    }
 }
 
-// The line rises after minute k.
-fn rise(samples: &[i32], smoothing: u64, k: usize) -> Run
-    requires { ⌜ Within (now samples) smoothing ⌝ }
-    requires { ⌜ k < length (now samples) ⌝ }
-    ensures { λ r. ⌜ stateOf r ≡ begin (dataOf (now (samples .entry)) smoothing) k (negℤ (pos smoothing)) ⌝ }
+// The mark where the line rises after minute k.
+fn after_rise(smoothing: u64, k: usize) -> Mark
+    requires { ⌜ smoothing ≤ 1099511627776 ⌝ }
+    ensures { λ r. ⌜ r ≡ riseOf smoothing k ⌝ }
 {
-    begin(
-        samples,
-        smoothing,
-        Mark {
-            i: k,
-            u: -(smoothing as i64),
-        },
-    )
+    Mark {
+        i: k,
+        u: -(smoothing as i64),
+    }
 }
 
 // The segment after minute i to the minute of a slope.
@@ -170,7 +160,7 @@ fn cut(i: usize, s: Slope) -> Piece
 }
 
 // Step 3's test, where a minute is left.
-fn falls(samples: &[i32], smoothing: u64, r: Run) -> bool
+pub fn falls(samples: &[i32], smoothing: u64, r: Run) -> bool
     requires { ⌜ Within (now samples) smoothing ⌝ }
     requires { ⌜ Good (now samples) smoothing r ⌝ }
     requires { ⌜ r .at .k < length (now samples) ⌝ }
@@ -184,7 +174,7 @@ fn falls(samples: &[i32], smoothing: u64, r: Run) -> bool
 }
 
 // Step 4's test, where a minute is left.
-fn rises(samples: &[i32], smoothing: u64, r: Run) -> bool
+pub fn rises(samples: &[i32], smoothing: u64, r: Run) -> bool
     requires { ⌜ Within (now samples) smoothing ⌝ }
     requires { ⌜ Good (now samples) smoothing r ⌝ }
     requires { ⌜ r .at .k < length (now samples) ⌝ }
@@ -197,8 +187,39 @@ fn rises(samples: &[i32], smoothing: u64, r: Run) -> bool
     below(max, low)
 }
 
+// Step 3: the segment ends where the lower bound was touched.
+pub fn fall(samples: &[i32], smoothing: u64, r: Run) -> Ending
+    requires { ⌜ Within (now samples) smoothing ⌝ }
+    requires { ⌜ Good (now samples) smoothing r ⌝ }
+    requires { ⌜ r .at .k < length (now samples) ⌝ }
+    requires { ⌜ test3 (dataOf (now samples) smoothing) (stateOf r) ≡ true ⌝ }
+    ensures { λ c. ⌜ Turns (now (samples .entry)) smoothing r (c .piece) (c .mark) ⌝ }
+{
+    let min = r.min;
+    Ending {
+        piece: cut(r.i, min),
+        mark: after_fall(smoothing, min.k),
+    }
+}
+
+// Step 4: the segment ends where the upper bound was touched.
+pub fn rise(samples: &[i32], smoothing: u64, r: Run) -> Ending
+    requires { ⌜ Within (now samples) smoothing ⌝ }
+    requires { ⌜ Good (now samples) smoothing r ⌝ }
+    requires { ⌜ r .at .k < length (now samples) ⌝ }
+    requires { ⌜ test3 (dataOf (now samples) smoothing) (stateOf r) ≡ false ⌝ }
+    requires { ⌜ test4 (dataOf (now samples) smoothing) (stateOf r) ≡ true ⌝ }
+    ensures { λ c. ⌜ Turns (now (samples .entry)) smoothing r (c .piece) (c .mark) ⌝ }
+{
+    let max = r.max;
+    Ending {
+        piece: cut(r.i, max),
+        mark: after_rise(smoothing, max.k),
+    }
+}
+
 // Steps 5 and 6.
-fn more(samples: &[i32], smoothing: u64, r: Run) -> Run
+pub fn more(samples: &[i32], smoothing: u64, r: Run) -> Run
     requires { ⌜ Within (now samples) smoothing ⌝ }
     requires { ⌜ Good (now samples) smoothing r ⌝ }
     requires { ⌜ r .at .k < length (now samples) ⌝ }
@@ -219,27 +240,8 @@ fn more(samples: &[i32], smoothing: u64, r: Run) -> Run
     }
 }
 
-// Steps 3 to 7, until a segment ends.
-fn scan(samples: &[i32], smoothing: u64, from: Run) -> Halt
-    requires { ⌜ Within (now samples) smoothing ⌝ }
-    requires { ⌜ Good (now samples) smoothing from ⌝ }
-    ensures { λ h. ⌜ Scanned (now (samples .entry)) smoothing from h ⌝ }
-{
-    let mut r = from;
-    while r.at.k < samples.len() {
-        if falls(samples, smoothing, r) {
-            return Halt::Fall(r);
-        }
-        if rises(samples, smoothing, r) {
-            return Halt::Rise(r);
-        }
-        r = more(samples, smoothing, r);
-    }
-    Halt::End(r)
-}
-
 // Steps 8 to 10. Step 2 is step 10 at a segment of one minute.
-fn finish(samples: &[i32], smoothing: u64, r: Run) -> Next
+pub fn finish(samples: &[i32], smoothing: u64, r: Run) -> Next
     requires { ⌜ Within (now samples) smoothing ⌝ }
     requires { ⌜ Good (now samples) smoothing r ⌝ }
     requires { ⌜ r .at .k ≡ length (now samples) ⌝ }
@@ -250,7 +252,7 @@ fn finish(samples: &[i32], smoothing: u64, r: Run) -> Next
     let max = r.max;
     // step 8: the upper bound stays
     if below(at, min) {
-        let f = fall(samples, smoothing, min.k);
+        let f = begin(samples, smoothing, after_fall(smoothing, min.k));
         let f_at = f.at;
         let f_min = f.min;
         return Next::Emit(
@@ -265,7 +267,7 @@ fn finish(samples: &[i32], smoothing: u64, r: Run) -> Next
     }
     // step 9: the lower bound stays
     if below(max, at) {
-        let f = rise(samples, smoothing, max.k);
+        let f = begin(samples, smoothing, after_rise(smoothing, max.k));
         let f_at = f.at;
         let f_max = f.max;
         return Next::Emit(
@@ -280,23 +282,4 @@ fn finish(samples: &[i32], smoothing: u64, r: Run) -> Next
     }
     // step 10
     Next::Last(cut(r.i, at))
-}
-
-// The segment that begins where a run does.
-pub fn advance(samples: &[i32], smoothing: u64, from: Run) -> Next
-    requires { ⌜ Within (now samples) smoothing ⌝ }
-    requires { ⌜ Good (now samples) smoothing from ⌝ }
-    ensures { λ n. ⌜ Advanced (now (samples .entry)) smoothing from n ⌝ }
-{
-    match scan(samples, smoothing, from) {
-        Halt::Fall(r) => {
-            let min = r.min;
-            Next::Emit(cut(r.i, min), fall(samples, smoothing, min.k))
-        }
-        Halt::Rise(r) => {
-            let max = r.max;
-            Next::Emit(cut(r.i, max), rise(samples, smoothing, max.k))
-        }
-        Halt::End(r) => finish(samples, smoothing, r),
-    }
 }

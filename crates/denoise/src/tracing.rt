@@ -33,16 +33,37 @@ pub fn trace(samples: &[i32], smoothing: u64, out: &mut [i64])
     let mut m = Mark { i: 0, u: 0 };
     let mut r = steps::begin(samples, smoothing, m);
     loop {
-        match steps::advance(samples, smoothing, r) {
-            Next::Emit(p, next) => {
-                m = fill(samples, m, p, out);
-                r = next;
-            }
-            Next::Last(p) => {
-                fill(samples, m, p, out);
-                return;
+        // steps 8 to 10
+        while r.at.k >= samples.len() {
+            // a copy, so that r stays in registers
+            let q = r;
+            match steps::finish(samples, smoothing, q) {
+                Next::Emit(p, next) => {
+                    m = fill(samples, m, p, out);
+                    r = next;
+                }
+                Next::Last(p) => {
+                    fill(samples, m, p, out);
+                    return;
+                }
             }
         }
+        // step 3
+        if steps::falls(samples, smoothing, r) {
+            let c = steps::fall(samples, smoothing, r);
+            m = fill(samples, m, c.piece, out);
+            r = steps::begin(samples, smoothing, c.mark);
+            continue;
+        }
+        // step 4
+        if steps::rises(samples, smoothing, r) {
+            let c = steps::rise(samples, smoothing, r);
+            m = fill(samples, m, c.piece, out);
+            r = steps::begin(samples, smoothing, c.mark);
+            continue;
+        }
+        // steps 5 to 7
+        r = steps::more(samples, smoothing, r);
     }
 }
 

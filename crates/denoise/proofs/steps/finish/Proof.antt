@@ -3,10 +3,12 @@ use mathlib.Core.Path.{_≡_, sym, _∙_, ap}
 use mathlib.Core.Bool.{true, false}
 use native.Mathlib.Omega.{arith}
 use Prim.Native.Nat.{_<_}
+use lib.IntN.{pos}
 use lib.ListN.{length}
-use Rattle.optimality.specs.Machine.{keep-min, keep-max}
+use Rattle.integers.specs.Order.{abs-neg}
+use Rattle.optimality.specs.Machine.{begin, keep-min, keep-max}
 use Rattle.denoise.specs.Run.{dataOf, stateOf, cutOf, belowOf}
-use Rattle.denoise.proofs.Room.{at-small}
+use Rattle.denoise.proofs.Room.{most, at-small}
 use Rattle.denoise.proofs.Turn.{ahead, emits, stops, known, step-8, step-9, step-10}
 use Rattle.denoise.proofs.steps.finish.Statement.{statement}
 use Rattle.denoise.proofs.steps.finish.Tie as tie
@@ -21,20 +23,24 @@ fires-8 c = sym (c .before .below .ensures) ∙ c .if1 .taken
 ahead-8 : (c : tie.Then1) → let a = c .before .before .before .before .before .args in (a .r .i < a .r .min .k) × (a .r .min .k < length (a .samples .now))
 ahead-8 c = let s = c .before .before .before .before .before in ahead _ _ (s .pre .0) (s .pre .1 .0) (step-8 (s .args .samples .now) (s .args .smoothing) (s .args .r) (s .pre .1 .1) (fires-8 c))
 
-fall-requires : tie.Need-fall-requires
-fall-requires c κs = (c .before .before .before .before .before .pre .0, ahead-8 c .1)
+after-fall-requires : tie.Need-after-fall-requires
+after-fall-requires c κs = most _ _ (c .before .before .before .before .before .pre .0)
+
+begin-requires : tie.Need-begin-requires
+begin-requires c κs = let s = c .before .before .before .before .before .before in rw (c .after-fall .ensures) ((s .pre .0, (ahead-8 (c .before) .1, s .pre .0 .limited .smoothing)))
 
 cut-requires : tie.Need-cut-requires
-cut-requires c κs = omega (arith, ahead-8 (c .before .before .before) .0)
+cut-requires c κs = omega (arith, ahead-8 (c .before .before .before .before) .0)
 
 returns : tie.Need-returns
 returns c =
     let f = c .before .before .before in
-    let s = f .before .before .before .before .before .before in
+    let w = f .before .before in
+    let s = w .before .before .before .before .before in
     let d = dataOf (s .args .samples .now) (s .args .smoothing) in
     rw (c .cut .ensures)
     (emits _ _ (s .pre .0) (s .pre .1 .0) (cutOf (s .args .r .i) (s .args .r .min)) (known _ _ (s .pre .0) (s .pre .1 .0) .nmin) (s .pre .1 .0 .small .min)
-    (step-8 (s .args .samples .now) (s .args .smoothing) (s .args .r) (s .pre .1 .1) (fires-8 (f .before))) (ap (keep-max d (stateOf (s .args .r))) (f .fall .ensures)))
+    (step-8 (s .args .samples .now) (s .args .smoothing) (s .args .r) (s .pre .1 .1) (fires-8 w)) (ap (keep-max d (stateOf (s .args .r))) (f .begin .ensures ∙ ap (λ m. begin d (m .i) (m .u)) (f .before .after-fall .ensures))))
 
 below-requires-2 : tie.Need-below-requires-2
 below-requires-2 c κs = let s = c .before .before .before .before .before in (s .pre .1 .0 .small .max, at-small _ _ (s .pre .0) _ (s .pre .1 .0))
@@ -49,20 +55,26 @@ fires-9 c = sym (c .before .below2 .ensures) ∙ c .if2 .taken
 ahead-9 : (c : tie.Then2) → let a = c .before .before .before .before .before .before .before .args in (a .r .i < a .r .max .k) × (a .r .max .k < length (a .samples .now))
 ahead-9 c = let s = c .before .before .before .before .before .before .before in ahead _ _ (s .pre .0) (s .pre .1 .0) (step-9 (s .args .samples .now) (s .args .smoothing) (s .args .r) (s .pre .1 .1) (passes-8 (c .before .before)) (fires-9 c))
 
-rise-requires : tie.Need-rise-requires
-rise-requires c κs = (c .before .before .before .before .before .before .before .pre .0, ahead-9 c .1)
+after-rise-requires : tie.Need-after-rise-requires
+after-rise-requires c κs = most _ _ (c .before .before .before .before .before .before .before .pre .0)
+
+begin-requires-2 : tie.Need-begin-requires-2
+begin-requires-2 c κs =
+    let s = c .before .before .before .before .before .before .before .before in
+    rw (c .after-rise .ensures) ((s .pre .0, (ahead-9 (c .before) .1, record { upto = omega (arith, abs-neg (pos (s .args .smoothing)), most _ _ (s .pre .0)) })))
 
 cut-requires-2 : tie.Need-cut-requires-2
-cut-requires-2 c κs = omega (arith, ahead-9 (c .before .before .before) .0)
+cut-requires-2 c κs = omega (arith, ahead-9 (c .before .before .before .before) .0)
 
 returns-2 : tie.Need-returns-2
 returns-2 c =
     let f = c .before .before .before in
-    let s = f .before .before .before .before .before .before .before .before in
+    let w = f .before .before in
+    let s = w .before .before .before .before .before .before .before in
     let d = dataOf (s .args .samples .now) (s .args .smoothing) in
     rw (c .cut2 .ensures)
     (emits _ _ (s .pre .0) (s .pre .1 .0) (cutOf (s .args .r .i) (s .args .r .max)) (known _ _ (s .pre .0) (s .pre .1 .0) .nmax) (s .pre .1 .0 .small .max)
-    (step-9 (s .args .samples .now) (s .args .smoothing) (s .args .r) (s .pre .1 .1) (passes-8 (f .before .before .before)) (fires-9 (f .before))) (ap (keep-min d (stateOf (s .args .r))) (f .rise .ensures)))
+    (step-9 (s .args .samples .now) (s .args .smoothing) (s .args .r) (s .pre .1 .1) (passes-8 (w .before .before)) (fires-9 w)) (ap (keep-min d (stateOf (s .args .r))) (f .begin2 .ensures ∙ ap (λ m. begin d (m .i) (m .u)) (f .before .after-rise .ensures))))
 
 -- ---- step 10
 cut-requires-3 : tie.Need-cut-requires-3
@@ -78,4 +90,5 @@ returns-3 c =
 
 pub finish-spec : {M : Type 1} → statement M
 finish-spec =
-    tie.close (tie.spec below-requires fall-requires cut-requires returns below-requires-2 rise-requires cut-requires-2 returns-2 cut-requires-3 returns-3)
+    tie.close
+    (tie.spec below-requires after-fall-requires begin-requires cut-requires returns below-requires-2 after-rise-requires begin-requires-2 cut-requires-2 returns-2 cut-requires-3 returns-3)

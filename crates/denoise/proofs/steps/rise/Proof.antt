@@ -1,36 +1,26 @@
 -- `denoise::steps::rise` meets its contract.
-use borrow.Author.Needs.{needs}
-use mathlib.Core.Path.{_≡_, ap, _∙_}
 use native.Mathlib.Omega.{arith}
-use lib.IntN.{pos, negℤ, _-ℤ_, +ℤ-idl}
-use mir.Syntax.{w64}
-use mir.Val.{toZ, ofZ}
+use lib.IntN.{pos}
 use Rattle.integers.specs.Order.{abs-neg}
-use Rattle.integers.specs.Bounds.{Atmost, cleaning, fit, clean}
-use Rattle.optimality.specs.Machine.{begin}
-use Rattle.denoise.specs.Run.{dataOf}
+use Rattle.denoise.specs.Run.{cutOf, riseOf}
 use Rattle.denoise.proofs.Room.{most}
+use Rattle.denoise.proofs.Turn.{ahead, turns, known, step-4}
 use Rattle.denoise.proofs.steps.rise.Statement.{statement}
 use Rattle.denoise.proofs.steps.rise.Tie as tie
 
-limit : (c : tie.Start) → Atmost 1099511627776 (c .args .smoothing)
-limit c = record { atmost = most _ _ (c .pre .0) }
+cut-requires : tie.Need-cut-requires
+cut-requires c κs = let s = c .before in omega (arith, ahead _ _ (s .pre .0) (s .pre .1 .0) (step-4 (s .args .samples .now) (s .args .smoothing) (s .args .r) (s .pre .1 .1 .0) (s .pre .1 .1 .1 .0) (s .pre .1 .1 .1 .1)) .0)
 
--- the dual after a rise, read back
-dual : (c : tie.Start) → toZ w64 (ofZ w64 (pos 0 -ℤ toZ w64 (c .args .smoothing))) ≡ negℤ (pos (c .args .smoothing))
-dual c = let l = limit c in let e : toZ w64 (ofZ w64 (pos 0 -ℤ toZ w64 (c .args .smoothing))) ≡ pos 0 -ℤ pos (c .args .smoothing) = clean (search cleaning depth 12) tt in e ∙ +ℤ-idl (negℤ (pos (c .args .smoothing)))
-
-cast-t4 : tie.Need-cast-t4
-cast-t4 c = search needs
-
-sub-t5 : tie.Need-sub-t5
-sub-t5 c = let l = limit c in fit (search cleaning depth 12) tt
-
-begin-requires : tie.Need-begin-requires
-begin-requires c κs = (c .pre .0, (c .pre .1, rw (dual c) (record { upto = omega (arith, abs-neg (pos (c .args .smoothing)), limit c .atmost) })))
+after-rise-requires : tie.Need-after-rise-requires
+after-rise-requires c κs = most _ _ (c .before .before .pre .0)
 
 returns : tie.Need-returns
-returns c = let s = c .before in c .begin .ensures ∙ ap (begin (dataOf (s .args .samples .now) (s .args .smoothing)) (s .args .k)) (dual s)
+returns c =
+    let s = c .before .before .before in
+    let r = s .args .r in
+    let G = s .pre .1 .0 in
+    rw (c .before .cut .ensures, c .after-rise .ensures)
+    (turns _ _ (s .pre .0) G (cutOf (r .i) (r .max)) (riseOf (s .args .smoothing) (r .max .k)) (known _ _ (s .pre .0) G .nmax) (G .small .max) (omega (arith, abs-neg (pos (s .args .smoothing)))) (step-4 (s .args .samples .now) (s .args .smoothing) (s .args .r) (s .pre .1 .1 .0) (s .pre .1 .1 .1 .0) (s .pre .1 .1 .1 .1)))
 
 pub rise-spec : {M : Type 1} → statement M
-rise-spec = tie.close (tie.spec cast-t4 sub-t5 begin-requires returns)
+rise-spec = tie.close (tie.spec cut-requires after-rise-requires returns)

@@ -1,0 +1,6 @@
+-- What the proofs of `chart` rest on, and the laws of its definitions.
+pub mod Sums
+pub mod Found
+pub mod Passed
+pub mod Listed
+pub mod Laws

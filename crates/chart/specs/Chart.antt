@@ -1,0 +1,80 @@
+-- The chart of a line (paper 01, "The chart"): refusals 1, 2, 6, 7, 8 as denoise's shape has them, then 13.
+use mathlib.Core.Bool.{Bool, true, false, cond}
+use mathlib.Core.List.{List, [], _∷_}
+use mathlib.Core.Option.{Option, none, some}
+use Prim.Native.Nat.{ℕ, zero, suc, _+_, _-_}
+use lib.Dec.{eqb, ltb}
+use lib.IntN.{ℤ}
+use lib.Signed.{ltZ}
+use lib.Ieee.{Float}
+use Rattle.level.specs.Answer.{Answer, refused, given, refuse-if}
+use Rattle.level.specs.Order.{cross}
+use Rattle.level.specs.Plot.{nearestTo}
+use Rattle.level.specs.declared.Level.{Level}
+use Rattle.denoise.specs.Shape.{well-shaped}
+use Rattle.chart.specs.declared.ChartSegment.{ChartSegment}
+use Rattle.chart.specs.declared.Piece.{Piece}
+use Rattle.chart.specs.declared.Piece.the-variants as Piece
+use Rattle.chart.specs.declared.Mark.{Mark}
+use Rattle.chart.specs.declared.Mark.the-variants as Mark
+
+-- ---- what an answer says
+abbrev pub piece : Piece → Answer ChartSegment
+piece (Piece.Segment s) = given s
+piece (Piece.Refused number place) = refused number place
+
+pub data Shown : Type 0 where
+  plain : Float → Shown
+  rise : Float → Float → Shown
+  fall : Float → Float → Shown
+
+abbrev pub marked : Mark → Answer Shown
+marked (Mark.Level v) = given (plain v)
+marked (Mark.Rise v w) = given (rise v w)
+marked (Mark.Fall v w) = given (fall v w)
+marked (Mark.Refused number place) = refused number place
+
+-- ---- the chart of the line that lists of lengths and totals are
+abbrev pub level : ℕ → ℤ → Level
+level n t = record { length = n; total = t }
+
+-- segment number j, after `before` minutes
+unfoldable pub segment-at : ℕ → List ℕ → List ℤ → ℕ → Option ChartSegment
+segment-at before ns ts zero = none
+segment-at before [] ts (suc j) = none
+segment-at before (n ∷ ns) [] (suc j) = none
+segment-at before (n ∷ ns) (t ∷ ts) (suc zero) = some (record { first = before + 1; last = before + n; level = nearestTo (level n t) })
+segment-at before (n ∷ ns) (t ∷ ts) (suc (suc j)) = segment-at (before + n) ns ts (suc j)
+
+-- the step from the level a to the one after it, by the exact levels; at the end of the line there is none
+abbrev pub step : Level → List ℕ → List ℤ → Shown
+step a [] ts = plain (nearestTo a)
+step a (n ∷ ns) [] = plain (nearestTo a)
+step a (n ∷ ns) (t ∷ ts) = cond (ltZ (cross a (level n t)) (cross (level n t) a)) (rise (nearestTo a) (nearestTo (level n t))) (fall (nearestTo a) (nearestTo (level n t)))
+
+abbrev pub pick : {A : Type 0} → Bool → A → A → A
+pick true x y = x
+pick false x y = y
+
+-- minute k: inside a segment its level, at a segment's last minute the step
+unfoldable pub mark-at : List ℕ → List ℤ → ℕ → Option Shown
+mark-at [] ts k = none
+mark-at (n ∷ ns) [] k = none
+mark-at (n ∷ ns) (t ∷ ts) k =
+    pick (eqb k 0) none
+    (pick (ltb k n) (some (plain (nearestTo (level n t))))
+    (pick (eqb k n) (some (step (level n t) ns ts)) (mark-at ns ts (k - n))))
+
+-- what the line lacks gets 13
+abbrev pub or-13 : {A : Type 0} → Option A → Answer A
+or-13 (some x) = given x
+or-13 none = refused 13 0
+
+abbrev pub of-line : {A : Type 0} → ℕ → List ℕ → List ℤ → Option A → Answer A
+of-line n ns ts found = refuse-if (eqb n 0) 1 0 (refuse-if (ltb 65536 n) 2 0 (well-shaped n ns ts (or-13 found)))
+
+abbrev pub segmentOf : ℕ → List ℕ → List ℤ → ℕ → Answer ChartSegment
+segmentOf n ns ts index = of-line n ns ts (segment-at 0 ns ts index)
+
+abbrev pub markOf : ℕ → List ℕ → List ℤ → ℕ → Answer Shown
+markOf n ns ts minute = of-line n ns ts (mark-at ns ts minute)

@@ -1,0 +1,19 @@
+-- What the functions that draw a line lean on: each line that passes the shape check has it (Passed.antt of proofs/).
+use mathlib.Core.List.{List}
+use mathlib.Core.Path.{_≡_}
+use Prim.Native.Nat.{ℕ, _<_, _≤_}
+use lib.ListN.{length, getD}
+use lib.IntN.{ℤ, pos}
+use Rattle.level.specs.Limits.{Valid}
+use Rattle.level.specs.declared.Level.{Level}
+use Rattle.denoise.specs.Shape.{sum}
+use Rattle.chart.specs.Chart.{level}
+
+-- the level number k, counted from 0
+abbrev pub nth : List ℕ → List ℤ → ℕ → Level
+nth ns ts k = level (getD ns k 0) (getD ts k (pos 0))
+
+pub record Drawable (ns : List ℕ) (ts : List ℤ) : Type 0 where
+  pub paired : length ns ≡ length ts
+  pub valid : (k : ℕ) → k < length ns → Valid (nth ns ts k)
+  pub short : sum ns ≤ 65536

@@ -1,0 +1,87 @@
+-- `sheet::write` meets its contract: the judge's refusals, then 5, then the sheet's bytes.
+use mathlib.Core.Path.{_≡_, sym, ap, _∙_}
+use Prim.Native.Nat.{ℕ}
+use native.Mathlib.Omega.{arith}
+use borrow.Author.Needs.{needs}
+use borrow.Author.Tests.{lt-ltb, le-ltb}
+use lib.ListN.{length}
+use Rattle.level.specs.Answer.{Answer, refused, given}
+use Rattle.denoise.specs.Limits.{in-limits, overwrite}
+use Rattle.denoise.specs.Check.{checked}
+use Rattle.sheet.specs.Format.{size}
+use Rattle.sheet.specs.SheetLaws.{length-sheet-bytes}
+use Rattle.sheet.specs.Read.{filed}
+use Rattle.sheet.specs.Write.{room, writeOf}
+use Rattle.sheet.proofs.Chains.{Alike, stopped, passed, lists-alike}
+use Rattle.sheet.proofs.Judged.{Judged, judged}
+use Rattle.sheet.proofs.write.Statement.{statement}
+use Rattle.sheet.proofs.write.Tie as tie
+
+abbrev judgement : tie.Start → Answer (Unit {0})
+judgement s = in-limits (s .args .samples .now) (s .args .smoothing) (filed (s .args .samples .now) (s .args .smoothing) (s .args .lengths .now) (s .args .totals .now) (given tt))
+
+abbrev bytes : tie.Start → ℕ
+bytes s = size (length (s .args .samples .now)) (length (s .args .lengths .now))
+
+abbrev answer : tie.Start → Answer ℕ
+answer s = writeOf (s .args .samples .now) (s .args .smoothing) (s .args .lengths .now) (s .args .totals .now) (s .args .out .now)
+
+same-tests : (s : tie.Start) → Alike (given tt) (room (s .args .out .now) (bytes s)) (judgement s) (answer s)
+same-tests s = lists-alike (s .args .samples .now) (s .args .smoothing) (s .args .lengths .now) (s .args .totals .now)
+
+says : (j : tie.After-judge) → checked (j .judge .result) ≡ judgement (j .before .before .before)
+says j = j .judge .ensures
+
+-- ---- 1, 2, 4, 3 or 6 to 9
+returns-2 : tie.Need-returns-2
+returns-2 c =
+    let n = c .before in
+    let j = n .before .before in
+    let s = j .before .before .before in
+    let e : answer s ≡ refused (n .number .given .0 .0) (n .number .given .0 .1 .0) = stopped (same-tests s) (sym (says j) ∙ ap checked (n .number .given .1)) in
+    (sym e, rw e)
+
+-- ---- no refusal so far
+told : (c : tie.After-enum-told) → let s = c .before .before .before .before .before in
+    Judged (s .args .samples .now) (s .args .smoothing) (s .args .lengths .now) (s .args .totals .now) × (answer s ≡ room (s .args .out .now) (bytes s))
+told c =
+    let j = c .before .before in
+    let s = j .before .before .before in
+    let e : judgement s ≡ given tt = sym (says j) ∙ ap checked (c .enum-told .given .1) in
+    (judged _ _ _ _ e, passed (same-tests s) e .1)
+
+-- ---- 5
+returns : tie.Need-returns
+returns c =
+    let e : answer (c .before .before .before .before .before .before) ≡ refused 5 0 = told (c .before) .1 ∙ rw (lt-ltb _ _ (c .if1 .taken)) in
+    (sym e, rw e)
+
+put-sheet-requires : tie.Need-put-sheet-requires
+put-sheet-requires c κs = omega (arith, told (c .before .before) .0)
+
+returns-3 : tie.Need-returns-3
+unfolding overwrite
+returns-3 c =
+    let p = c .before .before in
+    let l = p .before .before in
+    let t = told (l .before) in
+    let s = l .before .before .before .before .before .before in
+    let e : answer s ≡ given (bytes s) = t .1 ∙ rw (le-ltb _ _ (l .if1 .left)) in
+    (sym e, rw (e, length-sheet-bytes (s .args .samples .now) (s .args .smoothing) (s .args .lengths .now) (s .args .totals .now) (t .0 .same)) (p .put-sheet .ensures))
+
+pub write-spec : {M : Type 1} → statement M
+write-spec =
+    tie.close
+    (tie.spec
+    (λ c κs. search needs)
+    (λ c. search needs)
+    (λ c. search needs)
+    (λ c. search needs)
+    (λ c. search needs)
+    (λ c. omega (arith, told c .0))
+    (λ c. omega (arith, told c .0))
+    returns
+    put-sheet-requires
+    returns-2
+    (λ c. search needs)
+    returns-3)

@@ -1,0 +1,54 @@
+-- Completing: the reader's order, its 5 being for the output; the same sheet with its line (paper 01, "The sheet").
+use mathlib.Core.Path.{_≡_}
+use mathlib.Core.List.{List}
+use Prim.Native.Nat.{ℕ, _≤_, _<_}
+use lib.ListN.{length, take}
+use lib.IntN.{ℤ, pos}
+use Rattle.optimality.specs.Segments.{Segment}
+use Rattle.optimality.specs.Plain.{lens}
+use Rattle.optimality.specs.Plain as Plain
+use Rattle.optimality.specs.Machine.{plain-line}
+use Rattle.level.specs.Answer.{Answer, given}
+use Rattle.denoise.specs.Limits.{in-limits, overwrite, on-success}
+use Rattle.sheet.specs.Format.{smoothing, samples, size, sheet-bytes}
+use Rattle.sheet.specs.Read.{accepted}
+use Rattle.sheet.specs.Write.{room}
+
+-- of a series that is accepted: 5, or the sheet with its line. A line that was filed and accepted is this one
+module _ (ys : List ℤ) (L : ℕ) where
+  abbrev pub completed : List ℕ
+  completed = sheet-bytes ys L (lens (plain-line (pos L) ys)) (Plain.totals (plain-line (pos L) ys))
+
+  abbrev pub finishOf : List ℕ → Answer ℕ
+  finishOf out = room out (size (length ys) (length (plain-line (pos L) ys)))
+
+  abbrev pub finishedAfter : List ℕ → List ℕ
+  finishedAfter out = on-success (finishOf out) (overwrite completed out) out
+
+module _ (s out : List ℕ) where
+  abbrev pub completeOf : Answer ℕ
+  completeOf = accepted s (finishOf (samples s) (smoothing s) out)
+
+  -- what the output then holds
+  abbrev pub completedAfter : List ℕ
+  completedAfter = on-success completeOf (overwrite (completed (samples s) (smoothing s)) out) out
+
+-- ---- what the completer's own lists hold on the way
+abbrev pub fine : Answer (Unit {0})
+fine = given tt
+
+-- before the line is asked for: a series within the limits, room, and where m segments were filed the line already
+pub record Ready (ys : List ℤ) (L m : ℕ) (ns : List ℕ) (ts : List ℤ) : Type 0 where
+  pub limited : in-limits ys L fine ≡ fine
+  pub lengths-room : 65536 ≤ length ns
+  pub totals-room : 65536 ≤ length ts
+  pub own : 0 < m → (m ≡ length (plain-line (pos L) ys)) × ((take m ns ≡ lens (plain-line (pos L) ys)) × (take m ts ≡ Plain.totals (plain-line (pos L) ys)))
+
+-- the first m entries are the line l
+pub record Has (l : List Segment) (m : ℕ) (ns : List ℕ) (ts : List ℤ) : Type 0 where
+  pub count : m ≡ length l
+  pub few : m ≤ 65536
+  pub lengths : take m ns ≡ lens l
+  pub totals : take m ts ≡ Plain.totals l
+  pub lengths-room : m ≤ length ns
+  pub totals-room : m ≤ length ts

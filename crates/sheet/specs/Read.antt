@@ -1,0 +1,41 @@
+-- Reading: refusals 10, 1, 2, 11, 12, 4, 3, then where a line is filed the check's 6 to 9, then 5 (paper 01, "Sheets sent back").
+use mathlib.Core.Bool.{Bool, true, false, _||_, _&&_}
+use mathlib.Core.List.{List}
+use Prim.Native.Nat.{ℕ}
+use lib.Dec.{eqb, ltb}
+use lib.ListN.{length}
+use lib.IntN.{ℤ}
+use Rattle.level.specs.Answer.{Answer, given, refuse-if}
+use Rattle.denoise.specs.Limits.{in-limits, overwrite, on-success}
+use Rattle.denoise.specs.Check.{meets-conditions}
+use Rattle.sheet.specs.Format.{minutes, smoothing, samples, lengths, totals}
+use Rattle.sheet.specs.Head.{well-headed}
+use Rattle.sheet.specs.Answer.{fields}
+use Rattle.sheet.specs.declared.Fields.{Fields}
+
+-- two empty line lists mean that no line is filed; else 6 to 9 are tested; then the rest
+abbrev pub unless : {A : Type 0} → Bool → Answer A → Answer A → Answer A
+unless true tested rest = rest
+unless false tested rest = tested
+
+abbrev pub filed : {A : Type 0} → List ℤ → ℕ → List ℕ → List ℤ → Answer A → Answer A
+filed ys smoothing ns ts rest = unless (eqb (length ns) 0 && eqb (length ts) 0) (meets-conditions ys smoothing ns ts rest) rest
+
+-- all but 5, then the rest. (The tests 1 and 2 of `in-limits` have passed by then.)
+abbrev pub accepted : {A : Type 0} → List ℕ → Answer A → Answer A
+accepted s rest = well-headed s (in-limits (samples s) (smoothing s) (filed (samples s) (smoothing s) (lengths s) (totals s) rest))
+
+module _ (s : List ℕ) (ys : List ℤ) (ns : List ℕ) (ts : List ℤ) where
+  -- 5 for any of the three lists, used or not
+  abbrev pub readOf : Answer Fields
+  readOf = accepted s (refuse-if (ltb (length ys) (minutes s) || (ltb (length ns) (minutes s) || ltb (length ts) (minutes s))) 5 0 (given (fields s)))
+
+  -- what the lists then hold
+  abbrev pub samplesAfter : List ℤ
+  samplesAfter = on-success readOf (overwrite (samples s) ys) ys
+
+  abbrev pub lengthsAfter : List ℕ
+  lengthsAfter = on-success readOf (overwrite (lengths s) ns) ns
+
+  abbrev pub totalsAfter : List ℤ
+  totalsAfter = on-success readOf (overwrite (totals s) ts) ts

@@ -1,0 +1,118 @@
+// Sheets: the archive's format, 32 bytes of header, then the samples, then the segments of the line (paper 01, "The sheet").
+ghost use mathlib.Core.Path.{_≡_};
+ghost use mathlib.Core.List.{_++_};
+ghost use Prim.Native.Nat.{_≤_};
+ghost use lib.ListN.{length, drop};
+ghost use Rattle.level.specs.Answer.{given};
+ghost use Rattle.denoise.specs.Limits.{in-limits};
+ghost use Rattle.denoise.specs.Check.{checked};
+ghost use Rattle.sheet.specs.Answer.{fields, headed};
+ghost use Rattle.sheet.specs.Format.{smoothing, samples, lengths, totals, size, sheet-bytes};
+ghost use Rattle.sheet.specs.HeadLaws.{InOrder};
+ghost use Rattle.sheet.specs.Read.{filed, readOf, samplesAfter, lengthsAfter, totalsAfter};
+ghost use Rattle.sheet.specs.Write.{written, writeOf, writtenAfter};
+ghost use Rattle.sheet.specs.Complete.{completeOf, completedAfter};
+
+mod completing;
+mod header;
+mod lists;
+mod loading;
+
+use denoise::Checked;
+
+// What a sheet's header says: N, M and the smoothing L.
+pub struct Fields {
+    pub minutes: u32,
+    pub segments: u32,
+    pub smoothing: u64,
+}
+
+// A refusal has the paper's number and place.
+pub enum Reading {
+    Valid(Fields),
+    Refused(u32, usize),
+}
+
+// The number of bytes written.
+pub enum Written {
+    Bytes(usize),
+    Refused(u32, usize),
+}
+
+// Fills the lists with a sheet's samples and the lengths and totals of its line; later entries stay.
+pub fn read(sheet: &[u8], samples: &mut [i32], lengths: &mut [u32], totals: &mut [i64]) -> Reading
+    ensures { λ r. ⌜ headed r ≡ readOf (now (sheet .entry)) (now (samples .entry)) (now (lengths .entry)) (now (totals .entry)) ⌝ }
+    ensures { λ r. ⌜ now (samples .exit) ≡ samplesAfter (now (sheet .entry)) (now (samples .entry)) (now (lengths .entry)) (now (totals .entry)) ⌝ }
+    ensures { λ r. ⌜ now (lengths .exit) ≡ lengthsAfter (now (sheet .entry)) (now (samples .entry)) (now (lengths .entry)) (now (totals .entry)) ⌝ }
+    ensures { λ r. ⌜ now (totals .exit) ≡ totalsAfter (now (sheet .entry)) (now (samples .entry)) (now (lengths .entry)) (now (totals .entry)) ⌝ }
+{
+    match loading::accept(sheet) {
+        Reading::Refused(number, place) => Reading::Refused(number, place),
+        Reading::Valid(f) => {
+            let n = f.minutes as usize;
+            if samples.len() < n {
+                return Reading::Refused(5, 0);
+            }
+            if lengths.len() < n {
+                return Reading::Refused(5, 0);
+            }
+            if totals.len() < n {
+                return Reading::Refused(5, 0);
+            }
+            lists::read_samples(sheet, n, samples);
+            lists::read_segments(sheet, 32 + 4 * n, f.segments as usize, lengths, totals);
+            Reading::Valid(f)
+        }
+    }
+}
+
+// Writes the sheet that holds these lists; two empty line lists mean that no line is filed. Later bytes stay.
+pub fn write(
+    samples: &[i32],
+    smoothing: u64,
+    lengths: &[u32],
+    totals: &[i64],
+    out: &mut [u8],
+) -> Written
+    ensures { λ r. ⌜ written r ≡ writeOf (now (samples .entry)) smoothing (now (lengths .entry)) (now (totals .entry)) (now (out .entry)) ⌝ }
+    ensures { λ r. ⌜ now (out .exit) ≡ writtenAfter (now (samples .entry)) smoothing (now (lengths .entry)) (now (totals .entry)) (now (out .entry)) ⌝ }
+{
+    match loading::judge(samples, smoothing, lengths, totals) {
+        Checked::Refused(number, place) => Written::Refused(number, place),
+        Checked::Passed => {
+            let bytes = 32 + 4 * samples.len() + 12 * lengths.len();
+            if out.len() < bytes {
+                return Written::Refused(5, 0);
+            }
+            put_sheet(samples, smoothing, lengths, totals, out);
+            Written::Bytes(bytes)
+        }
+    }
+}
+
+// Writes the same sheet with its line; one that has its line comes out unchanged. Later bytes stay.
+pub fn complete(sheet: &[u8], out: &mut [u8]) -> Written
+    ensures { λ r. ⌜ written r ≡ completeOf (now (sheet .entry)) (now (out .entry)) ⌝ }
+    ensures { λ r. ⌜ now (out .exit) ≡ completedAfter (now (sheet .entry)) (now (out .entry)) ⌝ }
+{
+    match header::read_header(sheet) {
+        Reading::Refused(number, place) => Written::Refused(number, place),
+        Reading::Valid(f) => completing::complete_fields(sheet, f, out),
+    }
+}
+
+// The sheet that holds these lists, at the start of `out`; the bytes past it stay.
+fn put_sheet(samples: &[i32], smoothing: u64, lengths: &[u32], totals: &[i64], out: &mut [u8])
+    requires { ⌜ length (now samples) ≤ 65536 ⌝ }
+    requires { ⌜ length (now lengths) ≤ 65536 ⌝ }
+    requires { ⌜ length (now lengths) ≡ length (now totals) ⌝ }
+    requires { ⌜ size (length (now samples)) (length (now lengths)) ≤ length (now out) ⌝ }
+    ensures { λ _. ⌜ now (out .exit) ≡ sheet-bytes (now (samples .entry)) smoothing (now (lengths .entry)) (now (totals .entry))
+        ++ drop (size (length (now (samples .entry))) (length (now (lengths .entry)))) (now (out .entry)) ⌝ }
+{
+    let n = samples.len();
+    let m = lengths.len();
+    header::write_header(out, n as u32, m as u32, smoothing);
+    lists::write_samples(samples, out, 32);
+    lists::write_segments(lengths, totals, out, 32 + 4 * n);
+}
