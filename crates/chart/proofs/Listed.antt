@@ -1,12 +1,11 @@
 -- How a list is filled with one part of each segment: what is left to be written from segment k on gives the whole.
 use mathlib.Core.Path.{_≡_, refl, _∙_}
 use mathlib.Core.List.{List, [], _∷_, map}
-use native.Mathlib.Nat.{zero-add}
 use native.Mathlib.Numerals.{add-one}
 use native.Mathlib.Omega.{arith}
 use Prim.Native.Nat.{ℕ, _+_, _<_, _≤_}
 use lib.ListN.{length, set, drop, length-set, length-map, drop-of-length-le}
-use lib.Seq.{drop-cons, sets, sets-eq}
+use lib.Seq.{drop-cons, sets}
 use lib.IntN.{ℤ, pos}
 use Rattle.level.specs.declared.Level.{Level}
 use Rattle.denoise.specs.Limits.{overwrite}

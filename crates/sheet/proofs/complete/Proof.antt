@@ -1,5 +1,5 @@
 -- `sheet::complete` meets its contract: the header's refusals, then those of its lists, then the sheet with its line.
-use mathlib.Core.Path.{_≡_, sym, ap, _∙_}
+use mathlib.Core.Path.{sym, ap, _∙_}
 use borrow.Author.Needs.{needs}
 use Rattle.level.specs.Answer.{given}
 use Rattle.sheet.specs.Answer.{headed, fields}

@@ -1,14 +1,12 @@
 -- `sheet::completing::complete_lists` meets its contract: what `load` leaves is ready for the line.
-use mathlib.Core.Path.{_≡_, sym, ap, _∙_}
+use mathlib.Core.Path.{sym, ap, _∙_}
 use borrow.Author.Needs.{needs}
 use native.Mathlib.Omega.{arith}
-use lib.ListN.{length}
-use lib.Seq.{length-take-le, take-at}
+use lib.Seq.{length-take-le}
 use Rattle.level.specs.Answer.{given}
 use Rattle.denoise.specs.Check.{checked}
-use Rattle.sheet.specs.Format.{minutes, segment-count, smoothing, samples, lengths, totals, read-sample, read-length}
+use Rattle.sheet.specs.Format.{smoothing, samples, lengths, totals}
 use Rattle.sheet.specs.HeadLaws as HeadLaws
-use Rattle.sheet.specs.ListLaws.{length-records}
 use Rattle.sheet.proofs.Chains.{stopped, passed, lists-alike}
 use Rattle.sheet.proofs.OwnLine.{ready-loaded, completes}
 use Rattle.sheet.proofs.completing.complete_lists.Statement.{statement}

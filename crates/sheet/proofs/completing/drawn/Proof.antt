@@ -1,7 +1,6 @@
 -- `sheet::completing::drawn` meets its contract.
 use borrow.Author.Needs.{needs}
 use mathlib.Core.Path.{_≡_, sym, ap, _∙_}
-use native.Mathlib.Omega.{arith}
 use lib.ListN.{length}
 use lib.IntN.{pos}
 use Rattle.optimality.specs.Machine.{plain-line}

@@ -1,6 +1,6 @@
 -- `sheet::completing::finish` meets its contract: the first entries of the two lists are the line.
 use borrow.Author.Needs.{needs}
-use mathlib.Core.Path.{_≡_, sym}
+use mathlib.Core.Path.{sym}
 use native.Mathlib.Omega.{arith}
 use lib.Seq.{length-take-le}
 use Rattle.denoise.proofs.Admitted.{within}
