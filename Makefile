@@ -1,12 +1,21 @@
-# run: the example program; test: the gate; fmt: the layout of every Rattle and antt file
-.PHONY: run test fmt
+# run: the program on an example sheet; client: the C client on it; test: the gate; examples: the sheets anew; fmt: every file's layout
+.PHONY: run client test examples fmt
 
 run:
-	rt check level_values
-	./target/bin/level_values
+	@log=$$(rt check complete_sheet 2>&1) || { echo "$$log"; exit 1; }
+	target/bin/complete_sheet <examples/hour.sheet
+
+client:
+	@log=$$(rt staticlib console 2>&1) || { echo "$$log"; exit 1; }
+	mkdir -p target/examples
+	$(CC) -O2 -Wall -Wextra -o target/examples/complete examples/complete.c target/staticlib/libconsole.a
+	target/examples/complete examples/hour.sheet
 
 test:
 	bash .ci/run
+
+examples:
+	python3 examples/make_sheets.py
 
 fmt:
 	rt fmt

@@ -1,7 +1,8 @@
 /* The level line of a month of mail delay, from C. Link target/staticlib/libconsole.a (rt staticlib console).
  *
  * One duty is on the caller's side: each area is as long as the count beside it says, and an area that is written lies apart from the others.
- * Nothing else need be true of what is handed over. A call that returns a refusal leaves every area as it was.
+ * Nothing else need be true of what is handed over. A call that returns a refusal leaves every area as it was. No call allocates or keeps
+ * anything; sheet_complete needs 1 MiB and 16 KiB of stack for the sheet's lists, the others under 16 KiB.
  *
  * A result below 0 is a refusal: minus (256 times the place, plus the number), so that for r < 0 the number is -r % 256 and the place -r / 256.
  *
@@ -11,6 +12,8 @@
  *      way, place its minute                  7  a total beyond its length times 16,777,216, place its segment
  *   4  a smoothing above 2^40                 8  neighbours of equal level, place the second
  *                                             9  conditions (6), (7) of Condat 2013 broken, place the first such minute
+ *  10  a sheet of under 32 bytes             12  field 8, 12, 24 or 28 differs from the table, or field 24 from the bytes given,
+ *  11  more segments than minutes, place 4       place the first such byte
  *
  * Minutes and segments are numbered from 1. */
 #ifndef DAWHIKURA_H

@@ -17,4 +17,5 @@ pub mod Passed
 pub mod Followed
 pub mod Concluded
 pub mod CheckLaws
+pub mod LineLaws
 pub mod Records

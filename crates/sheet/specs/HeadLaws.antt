@@ -34,7 +34,7 @@ differs-none : (b : Bool) (byte : ℕ) (rest : Option ℕ) → differs b byte re
 differs-none true byte rest e = absurd (let z : _≡_ {A = ℕ} 0 1 = cc in omega arith)
 differs-none false byte rest e = (refl, e)
 
-or-false : (a b : Bool) → a || b ≡ false → (a ≡ false) × (b ≡ false)
+pub or-false : (a b : Bool) → a || b ≡ false → (a ≡ false) × (b ≡ false)
 or-false true b e = absurd (let z : _≡_ {A = ℕ} 0 1 = cc in omega arith)
 or-false false b e = (refl, e)
 
