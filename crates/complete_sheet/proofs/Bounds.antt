@@ -13,7 +13,6 @@ use Rattle.level.specs.Answer.{given}
 use Rattle.denoise.specs.Line.{lineOf}
 use Rattle.denoise.proofs.Refusals.{never, if-past}
 use Rattle.denoise.proofs.Admitted.{within}
-use Rattle.sheet.specs.Answer.{fields}
 use Rattle.sheet.specs.HeadLaws.{InOrder, or-false}
 use Rattle.sheet.specs.HeadLaws as HeadLaws
 use Rattle.sheet.specs.Read.{readOf}

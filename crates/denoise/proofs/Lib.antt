@@ -18,4 +18,5 @@ pub mod Followed
 pub mod Concluded
 pub mod CheckLaws
 pub mod LineLaws
+pub mod DualLaws
 pub mod Records

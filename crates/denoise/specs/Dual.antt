@@ -1,8 +1,8 @@
 -- The dual of a series (paper 01's balances): u[k] times the length of the segment that holds minute k. Refusals 1, 2, 4, 3, 5.
 use mathlib.Core.List.{List, [], _∷_, _++_}
-use Prim.Native.Nat.{ℕ}
+use Prim.Native.Nat.{ℕ, _/_}
 use lib.Dec.{ltb}
-use lib.ListN.{length, take, drop}
+use lib.ListN.{length, take, drop, replicate}
 use lib.IntN.{ℤ, pos, _+ℤ_, _-ℤ_}
 use Rattle.integers.specs.Sums.{sumZ}
 use Rattle.optimality.specs.Series.{plain-minute}
@@ -26,6 +26,11 @@ duals-inside s v (y ∷ ys) = then-v s v (plain-minute y) ∷ duals-inside s (th
 unfoldable pub duals : ℤ → List ℤ → List Segment → List ℤ
 duals u ys [] = []
 duals u ys (s ∷ ss) = duals-inside s (by-divisor s u) (take (s .len) ys) ++ duals (u +ℤ sumZ (take (s .len) ys) -ℤ s .total) (drop (s .len) ys) ss
+
+-- by this, at each minute, those are over one scale Q: Q over the divisor of the segment that holds it
+unfoldable pub factors : ℕ → List Segment → List ℕ
+factors Q [] = []
+factors Q (s ∷ ss) = replicate (s .len) (Q / s .divisor) ++ factors Q ss
 
 module _ (ys : List ℤ) (smoothing : ℕ) (out : List ℤ) where
   abbrev pub balancesOf : Answer (Unit {0})

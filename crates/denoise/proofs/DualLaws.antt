@@ -1,0 +1,138 @@
+-- The numbers that `balances` fills in are the dual of Conditions.antt: each, times Q over the length of the segment that holds its minute, is Q u[k].
+use mathlib.Core.Path.{_≡_, refl, sym, ap, _∙_, subst}
+use mathlib.Core.List.{List, [], _∷_, _++_}
+use Prim.Native.Nat.{ℕ, zero, suc, _/_, _<_, _≤_}
+use native.Mathlib.Omega.{arith}
+use lib.ListN.{length, getD, take, drop, replicate, length-drop, List·getD-append}
+use lib.IntN.{ℤ, pos, _+ℤ_, _*ℤ_, _-ℤ_}
+use Rattle.integers.specs.Order.{0⩽pos}
+use Rattle.integers.specs.Ring.{ring, reify}
+use Rattle.integers.specs.Sums.{sumZ}
+use Rattle.optimality.specs.Series.{Minute, plain, plain-minute}
+use Rattle.optimality.specs.Conditions.{after, dual}
+use Rattle.optimality.specs.Segments.{Segment, lengths, IsLine, Scale, numerators, by-divisor, then-v}
+use Rattle.optimality.specs.Scales.{quotient}
+use Rattle.optimality.specs.Plain.{segments, lens, totals, length-plain, formed-lists}
+use Rattle.optimality.specs.Machine.{plain-line}
+use Rattle.optimality.specs.Theorems as Theorems
+use Rattle.level.specs.Answer.{given}
+use Rattle.denoise.specs.Limits.{overwrite}
+use Rattle.denoise.specs.Dual.{duals-inside, duals, factors, balancesOf, balancesAfter}
+use Rattle.denoise.proofs.Refusals.{never}
+use Rattle.denoise.proofs.CheckLaws.{limits-past}
+
+-- the numbers ds, each by its factor, are Q u after each minute, where U is Q u before the first
+unfoldable Agree : (Q U : ℤ) → List Minute → List ℤ → List ℕ → List ℤ → Type 0
+Agree Q U [] xs cs ds = Unit {0}
+Agree Q U (m ∷ ms) (x ∷ xs) (c ∷ cs) (d ∷ ds) = (pos c *ℤ d ≡ after Q U m x) × Agree Q (after Q U m x) ms xs cs ds
+Agree Q U (m ∷ ms) (x ∷ xs) (c ∷ cs) [] = ⊥
+Agree Q U (m ∷ ms) (x ∷ xs) [] ds = ⊥
+Agree Q U (m ∷ ms) [] cs ds = ⊥
+
+at : (Q U : ℤ) (ms : List Minute) (xs : List ℤ) (cs : List ℕ) (ds : List ℤ) → Agree Q U ms xs cs ds → (k : ℕ) → k < length ms → pos (getD cs k 0) *ℤ getD ds k (pos 0) ≡ dual Q U ms xs (suc k)
+unfolding Agree dual
+at Q U [] xs cs ds h k l = absurd (omega arith)
+at Q U (m ∷ ms) (x ∷ xs) (c ∷ cs) (d ∷ ds) h zero l = h .0
+at Q U (m ∷ ms) (x ∷ xs) (c ∷ cs) (d ∷ ds) h (suc k) l = at Q (after Q U m x) ms xs cs ds (h .1) k (omega arith)
+at Q U (m ∷ ms) (x ∷ xs) (c ∷ cs) [] h k l = absurd h
+at Q U (m ∷ ms) (x ∷ xs) [] ds h k l = absurd h
+at Q U (m ∷ ms) [] cs ds h k l = absurd h
+
+one-each : (Q U : ℤ) (ms : List Minute) (xs : List ℤ) (cs : List ℕ) (ds : List ℤ) → Agree Q U ms xs cs ds → length ms ≤ length ds
+unfolding Agree
+one-each Q U [] xs cs ds h = omega arith
+one-each Q U (m ∷ ms) (x ∷ xs) (c ∷ cs) (d ∷ ds) h = omega (arith, one-each Q (after Q U m x) ms xs cs ds (h .1))
+one-each Q U (m ∷ ms) (x ∷ xs) (c ∷ cs) [] h = absurd h
+one-each Q U (m ∷ ms) (x ∷ xs) [] ds h = absurd h
+one-each Q U (m ∷ ms) [] cs ds h = absurd h
+
+-- ---- one minute, in whole numbers
+by-none : (Q : ℤ) → Q *ℤ pos 0 ≡ pos 0
+by-none Q = ring (Q ∷ []) (search reify depth 20) refl
+
+one : (c v d y t : ℤ) → c *ℤ (v +ℤ pos 1 *ℤ (d *ℤ y -ℤ t)) ≡ c *ℤ v +ℤ pos 1 *ℤ (d *ℤ c *ℤ y -ℤ t *ℤ c)
+one c v d y t = ring (c ∷ v ∷ d ∷ y ∷ t ∷ []) (search reify depth 20) refl
+
+none-left : (v d t : ℤ) → v +ℤ d *ℤ pos 0 -ℤ pos 0 *ℤ t ≡ v
+none-left v d t = ring (v ∷ d ∷ t ∷ []) (search reify depth 20) refl
+
+one-less : (v d y t n r : ℤ) → v +ℤ pos 1 *ℤ (d *ℤ y -ℤ t) +ℤ d *ℤ r -ℤ n *ℤ t ≡ v +ℤ d *ℤ (y +ℤ r) -ℤ (pos 1 +ℤ n) *ℤ t
+one-less v d y t n r = ring (v ∷ d ∷ y ∷ t ∷ n ∷ r ∷ []) (search reify depth 20) refl
+
+regroup : (c d u : ℤ) → c *ℤ (d *ℤ u) ≡ d *ℤ c *ℤ u
+regroup c d u = ring (c ∷ d ∷ u ∷ []) (search reify depth 20) refl
+
+whole : (d u r t : ℤ) → d *ℤ u +ℤ d *ℤ r -ℤ d *ℤ t ≡ d *ℤ (u +ℤ r -ℤ t)
+whole d u r t = ring (d ∷ u ∷ r ∷ t ∷ []) (search reify depth 20) refl
+
+-- ---- along n minutes of a segment, and on from there
+module _ (Q : ℤ) (q : ℕ) (s : Segment) (scale : pos (s .divisor) *ℤ pos q ≡ Q) (u : ℤ) (xs : List ℤ) (cs : List ℕ) (ds : List ℤ) where
+  abbrev d : ℤ
+  d = pos (s .divisor)
+
+  next : (v y : ℤ) → pos q *ℤ then-v s v (plain-minute y) ≡ after Q (pos q *ℤ v) (plain-minute y) (s .total *ℤ pos q)
+  next v y = rw (← scale) (one (pos q) v d y (s .total))
+
+  begin : (v : ℤ) → v ≡ d *ℤ u → pos q *ℤ v ≡ Q *ℤ u
+  begin v e = ap (λ x. pos q *ℤ x) e ∙ regroup (pos q) d u ∙ ap (λ x. x *ℤ u) scale
+
+  along : (n : ℕ) (v : ℤ) (ys : List ℤ) → n ≤ length ys → v +ℤ d *ℤ sumZ (take n ys) -ℤ pos n *ℤ s .total ≡ d *ℤ u → Agree Q (Q *ℤ u) (plain (drop n ys)) xs cs ds →
+      Agree Q (pos q *ℤ v) (plain ys) (replicate n (s .total *ℤ pos q) ++ xs) (replicate n q ++ cs) (duals-inside s v (take n ys) ++ ds)
+  unfolding Agree plain duals-inside sumZ
+  along zero v ys h e r = subst (λ U. Agree Q U (plain ys) xs cs ds) (sym (begin v (sym (none-left v d (s .total)) ∙ e))) r
+  along (suc n) v [] h e r = absurd (omega arith)
+  along (suc n) v (y ∷ ys) h e r =
+      let k : pos (suc n) ≡ pos 1 +ℤ pos n = ap pos (omega arith) in
+      let f = one-less v d y (s .total) (pos n) (sumZ (take n ys)) ∙ ap (λ m. v +ℤ d *ℤ (y +ℤ sumZ (take n ys)) -ℤ m *ℤ s .total) (sym k) ∙ e in
+      (next v y, subst (λ U. Agree Q U (plain ys) (replicate n (s .total *ℤ pos q) ++ xs) (replicate n q ++ cs) (duals-inside s (then-v s v (plain-minute y)) (take n ys) ++ ds)) (next v y) (along n (then-v s v (plain-minute y)) ys (omega arith) f r))
+
+-- ---- along a line whose divisors are its lengths
+unfoldable Plainly : List Segment → Type 0
+Plainly [] = Unit {0}
+Plainly (s ∷ ss) = (s .divisor ≡ s .len) × Plainly ss
+
+all-along : (Q : ℕ) → 0 < Q → (u : ℤ) (ys : List ℤ) (ss : List Segment) → lengths ss ≡ length ys → Plainly ss → Scale Q ss → Agree (pos Q) (pos Q *ℤ u) (plain ys) (numerators Q ss) (factors Q ss) (duals u ys ss)
+unfolding Agree plain lengths Plainly Scale numerators factors duals
+all-along Q p u [] [] l f z = tt
+all-along Q p u (y ∷ ys) [] l f z = absurd (omega arith)
+all-along Q p u ys (s ∷ ss) l f z =
+    let sc = quotient Q (s .divisor) p (z .0) .times in
+    let u′ = u +ℤ sumZ (take (s .len) ys) -ℤ s .total in
+    let rest = all-along Q p u′ (drop (s .len) ys) ss (omega (arith, length-drop (s .len) ys)) (f .1) (z .1) in
+    let d = pos (s .divisor) in
+    let e : by-divisor s u +ℤ d *ℤ sumZ (take (s .len) ys) -ℤ pos (s .len) *ℤ s .total ≡ d *ℤ u′ = subst (λ (n : ℕ). by-divisor s u +ℤ d *ℤ sumZ (take (s .len) ys) -ℤ pos n *ℤ s .total ≡ d *ℤ u′) (f .0) (whole d u (sumZ (take (s .len) ys)) (s .total)) in
+    subst (λ U. Agree (pos Q) U (plain ys) (numerators Q (s ∷ ss)) (factors Q (s ∷ ss)) (duals u ys (s ∷ ss))) (begin (pos Q) (Q / s .divisor) s sc u [] [] [] (by-divisor s u) refl)
+    (along (pos Q) (Q / s .divisor) s sc u′ (numerators Q ss) (factors Q ss) (duals u′ (drop (s .len) ys) ss) (s .len) (by-divisor s u) ys (omega arith) e rest)
+
+plainly : (ns : List ℕ) (ts : List ℤ) → Plainly (segments ns ts)
+unfolding Plainly segments
+plainly [] ts = tt
+plainly (n ∷ ns) [] = tt
+plainly (n ∷ ns) (t ∷ ts) = (refl, plainly ns ts)
+
+-- ---- what the list holds after a call that is not refused
+module _ (ys : List ℤ) (L : ℕ) (out : List ℤ) (e : balancesOf ys L out ≡ given tt) where
+  abbrev l : List Segment
+  l = plain-line (pos L) ys
+
+  some : 0 < length ys
+  some = limits-past ys L (λ number place h q. never q) e .0 .some
+
+  line : IsLine (pos L) (pos 0) (pos 0) (plain ys) l
+  line = Theorems.meets (pos L) ys some (0⩽pos L)
+
+  agreed : (Q : ℕ) → 0 < Q → Scale Q l → Agree (pos Q) (pos 0) (plain ys) (numerators Q l) (factors Q l) (duals (pos 0) ys l)
+  agreed Q p z =
+      let f : Plainly l = subst (λ ss. Plainly ss) (sym (formed-lists ys l (line .formed))) (plainly (lens l) (totals l)) in
+      subst (λ U. Agree (pos Q) U (plain ys) (numerators Q l) (factors Q l) (duals (pos 0) ys l)) (by-none (pos Q)) (all-along Q p (pos 0) ys l (line .formed .long ∙ length-plain ys) f z)
+
+  pub balanced : (Q : ℕ) → 0 < Q → Scale Q l → (k : ℕ) → k < length ys →
+      pos (getD (factors Q l) k 0) *ℤ getD (balancesAfter ys L out) k (pos 0) ≡ dual (pos Q) (pos 0) (plain ys) (numerators Q l) (suc k)
+  unfolding overwrite
+  balanced Q p z k h =
+      let a = agreed Q p z in
+      let n : k < length (plain ys) = omega (arith, length-plain ys) in
+      let b : balancesAfter ys L out ≡ overwrite (duals (pos 0) ys l) out = rw e in
+      ap (λ (xs : List ℤ). pos (getD (factors Q l) k 0) *ℤ getD xs k (pos 0)) b
+      ∙ ap (λ x. pos (getD (factors Q l) k 0) *ℤ x) (List·getD-append (duals (pos 0) ys l) _ (pos 0) k (omega (arith, one-each (pos Q) (pos 0) (plain ys) _ _ _ a)))
+      ∙ at (pos Q) (pos 0) (plain ys) (numerators Q l) (factors Q l) (duals (pos 0) ys l) a k n
