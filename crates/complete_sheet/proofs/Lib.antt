@@ -1,2 +1,6 @@
 -- What the functions' proofs share.
-pub mod Bounds
+pub mod Texts
+pub mod Rows
+pub mod Lines
+pub mod Readings
+pub mod Shown

@@ -37,8 +37,7 @@ loop-less c = omega arith
 loop-again : tie.Need-loop-again Inv-loop μ-loop
 loop-again c =
     let loop = c .before .before .loop in
-    let start = c .before .before .before in
-    (
+    let start = c .before .before .before in (
       omega arith,
       byte-more (loop .out) (start .args .at) (loop .i) (start .args .text .now) (omega arith) (omega arith) ∙ loop .inv .1,
       simp length-set (loop .inv .2),
