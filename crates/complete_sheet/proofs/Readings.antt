@@ -1,23 +1,23 @@
 -- A sheet that was read: the lists hold its samples and its line, and are ready for the line to be asked for.
-use mathlib.Core.Path.{_≡_, refl, sym, ap, _∙_}
+use mathlib.Core.Path.{_≡_, sym, ap, _∙_}
 use mathlib.Core.List.{List}
 use mathlib.Core.Logic.{⊎-elim}
 use Prim.Native.Nat.{ℕ, _≤_}
 use native.Mathlib.Omega.{arith}
 use borrow.Author.Tests.{ltb-false}
-use lib.ListN.{length, take, drop, length-map}
+use lib.ListN.{length, take, length-map}
 use lib.Seq.{take-at}
 use lib.IntN.{ℤ, pos}
 use Rattle.optimality.specs.Machine.{plain-line}
-use Rattle.level.specs.Answer.{Answer, given}
-use Rattle.denoise.specs.Limits.{in-limits, overwrite}
+use Rattle.level.specs.Answer.{given}
+use Rattle.denoise.specs.Limits.{overwrite}
 use Rattle.denoise.proofs.Refusals.{never, if-past}
 use Rattle.sheet.specs.Answer.{fields}
 use Rattle.sheet.specs.Format.{minutes, segment-count, smoothing, samples, lengths, totals, read-sample, read-length}
 use Rattle.sheet.specs.HeadLaws.{InOrder, or-false}
 use Rattle.sheet.specs.HeadLaws as HeadLaws
 use Rattle.sheet.specs.ListLaws.{length-records}
-use Rattle.sheet.specs.Read.{filed, accepted, readOf, samplesAfter, lengthsAfter, totalsAfter}
+use Rattle.sheet.specs.Read.{accepted, readOf, samplesAfter, lengthsAfter, totalsAfter}
 use Rattle.sheet.specs.Complete.{fine}
 use Rattle.sheet.specs.declared.Fields.{Fields}
 use Rattle.sheet.proofs.Chains.{same-given, passed, accepted-alike}
@@ -25,15 +25,17 @@ use Rattle.sheet.proofs.Judged.{Judged, judged}
 use Rattle.complete_sheet.specs.Report.{Ready}
 use Rattle.complete_sheet.proofs.Lines.{length-overwrite}
 
+-- a sheet that is accepted
+module _ (s : List ℕ) (e : accepted s fine ≡ fine) where
+  pub in-order : InOrder s
+  in-order = HeadLaws.passed s _ tt e .0
+
+  pub judgement : Judged (samples s) (smoothing s) (lengths s) (totals s)
+  judgement = judged (samples s) (smoothing s) (lengths s) (totals s) (HeadLaws.passed s _ tt e .1)
+
 module _ (s : List ℕ) (ys : List ℤ) (ns : List ℕ) (ts : List ℤ) (f : Fields) (e : readOf s ys ns ts ≡ given f) where
   passes : accepted s fine ≡ fine
   passes = passed (accepted-alike {y = fine} s) e .1
-
-  pub in-order : InOrder s
-  in-order = HeadLaws.passed s _ f e .0
-
-  pub judgement : Judged (samples s) (smoothing s) (lengths s) (totals s)
-  judgement = judged (samples s) (smoothing s) (lengths s) (totals s) (HeadLaws.passed s _ tt passes .1)
 
   -- what the reader gives, and the room that it found
   pub record Given : Type 0 where
@@ -68,11 +70,11 @@ module _ (s : List ℕ) (ys : List ℤ) (ns : List ℕ) (ts : List ℤ) (f : Fie
       ready : Ready (samples s) (smoothing s) (segment-count s) (overwrite (lengths s) ns) (overwrite (totals s) ts)
       unfolding overwrite
       ready =
-          let j = judgement in
+          let j = judgement s passes in
           let N : length (samples s) ≡ minutes s = length-records 4 read-sample _ _ in
           let M : length (lengths s) ≡ segment-count s = length-records 12 read-length _ _ in
           let g = found in
-          let few = in-order .fewer in
+          let few = in-order s passes .fewer in
           let same = j .same in
           record {
             limited = j .limited;

@@ -4,11 +4,11 @@ use mathlib.Core.List.{List, [], _++_, append-assoc, append-nil}
 use Prim.Native.Nat.{ℕ, _+_, _*_, _≤_, _<_}
 use native.Mathlib.Numerals.{add-one}
 use native.Mathlib.Omega.{arith}
-use lib.ListN.{length, drop, getD, length-append, drop-of-length-le}
+use lib.ListN.{length, drop, getD, drop-of-length-le}
 use lib.Seq.{drop-cons}
 use lib.IntN.{ℤ, pos}
 use Rattle.codec.specs.Place.{overwrite}
-use Rattle.codec.specs.PlaceLaws.{overwrite-append, length-overwrite}
+use Rattle.codec.specs.PlaceLaws.{length-overwrite}
 use Rattle.text.proofs.Steps.{overwrite-none}
 use Rattle.complete_sheet.specs.Report.{row, rows}
 use Rattle.complete_sheet.proofs.Texts.{Put, then}

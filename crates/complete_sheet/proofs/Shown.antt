@@ -1,19 +1,19 @@
 -- What is shown, by the reader's answer and by the sheet's length.
-use mathlib.Core.Path.{_≡_, refl, sym, ap, _∙_}
+use mathlib.Core.Path.{_≡_, sym, ap, _∙_}
 use mathlib.Core.List.{List}
 use Prim.Native.Nat.{ℕ, _+_, _-_, _≤_, _<_}
 use native.Mathlib.Omega.{arith}
 use borrow.Author.Tests.{lt-ltb, le-ltb}
-use lib.ListN.{length, take, drop, replicate, length-append, length-drop}
+use lib.ListN.{length, drop, length-append, length-drop}
 use lib.Seq.{length-take-le}
-use lib.IntN.{ℤ, pos}
+use lib.IntN.{ℤ}
 use Rattle.codec.specs.Place.{overwrite}
 use Rattle.level.specs.Answer.{Answer, refused, given}
 use Rattle.io.specs.Counts.{Counts}
 use Rattle.sheet.specs.Format.{samples}
 use Rattle.sheet.specs.Read.{readOf}
 use Rattle.sheet.specs.declared.Fields.{Fields}
-use Rattle.complete_sheet.specs.Report.{too-long, line-shown, refusal, answer-text, reportOf}
+use Rattle.complete_sheet.specs.Report.{too-long, line-shown, refusal, answer-text, no-samples, no-lengths, no-totals, reportOf}
 
 -- l is s with text on its first bytes, which are r
 abbrev pub Begins : List ℕ → List ℕ → ℕ → List ℕ → Type 0
@@ -48,7 +48,7 @@ module _ (s out : List ℕ) (r : ℕ) (out′ : List ℕ) (same : length out′ 
   unfolding reportOf
   long-shown h = reported too-long (rw (lt-ltb 16416 (length s) h))
 
-  pub short-shown : length s ≤ 16416 → (ys : List ℤ) (ns : List ℕ) (ts : List ℤ) → ys ≡ replicate 1024 (pos 0) → ns ≡ replicate 1024 0 → ts ≡ replicate 1024 (pos 0)
+  pub short-shown : length s ≤ 16416 → (ys : List ℤ) (ns : List ℕ) (ts : List ℤ) → ys ≡ no-samples → ns ≡ no-lengths → ts ≡ no-totals
       → Begins out (answer-text s (readOf s ys ns ts)) r out′ → Reported
   unfolding reportOf
   short-shown h ys ns ts p q t = reported (answer-text s (readOf s ys ns ts)) (rw (le-ltb 16416 (length s) h, p, q, t))

@@ -79,11 +79,19 @@ unfoldable pub answer-text : List ℕ → Answer Fields → List ℕ
 answer-text s (refused number place) = refusal number place
 answer-text s (given f) = line-shown (f .minutes) (f .smoothing) (samples s)
 
--- the reader's lists have 1,024 entries; no sheet of as many minutes is longer than 16,416 bytes
+-- the program's lists, before a sheet is read
+abbrev pub no-samples : List ℤ
+no-samples = replicate 1024 (pos 0)
+
+abbrev pub no-lengths : List ℕ
+no-lengths = replicate 1024 0
+
+abbrev pub no-totals : List ℤ
+no-totals = replicate 1024 (pos 0)
+
+-- no sheet of 1,024 minutes is longer than 16,416 bytes
 unfoldable pub reportOf : List ℕ → List ℕ
-reportOf s =
-    cond (ltb 16416 (length s)) too-long
-    (answer-text s (readOf s (replicate 1024 (pos 0)) (replicate 1024 0) (replicate 1024 (pos 0))))
+reportOf s = cond (ltb 16416 (length s)) too-long (answer-text s (readOf s no-samples no-lengths no-totals))
 
 -- ---- what the program's lists hold before the line is asked for: a series within the limits, room for its line, and where m segments were
 -- filed the line already

@@ -1,5 +1,5 @@
-// Decimal text of numbers, at a place in a slice of bytes. These functions are for the crates above, which see to the room
-// that each requires; what users call stands in sheet.
+// Text at a place in a slice of bytes: numbers in decimal, and bytes as they are. These functions are for the crates above,
+// which see to the room that each requires; what users call stands in sheet.
 ghost use mathlib.Core.Path.{_≡_};
 ghost use Prim.Native.Nat.{_+_, _≤_, _<_};
 ghost use lib.ListN.{length};

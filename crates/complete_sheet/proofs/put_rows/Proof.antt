@@ -1,7 +1,7 @@
 -- `complete_sheet::put_rows` meets its contract: each turn writes a row, where the one before it ended. 65,536 lengths and 1 add up to less than 2^64.
 use Prim.Native.Nat.{_-_, _≤_}
 use native.Mathlib.Omega.{arith}
-use borrow.Author.Needs.{needs, sfits-of}
+use borrow.Author.Needs.{sfits-of}
 use lib.ListN.{length, getD}
 use mir.Syntax.{w64}
 use mir.Facts.{toZ-ofZ}
