@@ -38,8 +38,8 @@ int64_t series_check(const int32_t *samples, size_t minutes, uint64_t smoothing,
 /* The chart of a line of so many minutes: the first minute, the last minute and the plotted level of each segment, in the first entries of the three
  * lists; the result is the number of segments. The lists need as many entries as the line has segments. A plotted level is the nearest double to total
  * over length, ties to even. Refusals 1, 2, 6, 7, 8, then 5. */
-int64_t chart_segments(size_t minutes, const uint32_t *lengths, size_t lengths_len, const int64_t *totals, size_t totals_len, uint32_t *firsts, size_t firsts_len,
-                       uint32_t *lasts, size_t lasts_len, double *levels, size_t levels_len);
+int64_t chart_segments(size_t minutes, const uint32_t *lengths, size_t lengths_len, const int64_t *totals, size_t totals_len, uint32_t *firsts,
+                       size_t firsts_len, uint32_t *lasts, size_t lasts_len, double *levels, size_t levels_len);
 
 /* The mark of one minute of that chart: 0 for a plain level, 1 for a rise and 2 for a fall, which stand at the last minute of the old level. The first
  * two levels are the plotted ones before and after the step, or the plain one twice; the list needs two entries. Two close levels may plot alike; the
@@ -50,13 +50,13 @@ int64_t chart_mark(size_t minutes, const uint32_t *lengths, size_t lengths_len, 
 /* Reads a sheet (README, "The sheet"): its samples, the lengths and totals of its line, and in three fields its minutes, its segments and its smoothing.
  * The result is the number of segments, 0 where no line is filed. The first three lists need as many entries as the sheet has minutes, filled or not,
  * the fields 3. Refusals 10, 1, 2, 11, 12, 4, 3, then 6 to 9 where a line is filed, then 5. */
-int64_t sheet_read(const uint8_t *sheet, size_t sheet_len, int32_t *samples, size_t samples_len, uint32_t *lengths, size_t lengths_len, int64_t *totals, size_t totals_len,
-                   uint64_t *fields, size_t fields_len);
+int64_t sheet_read(const uint8_t *sheet, size_t sheet_len, int32_t *samples, size_t samples_len, uint32_t *lengths, size_t lengths_len, int64_t *totals,
+                   size_t totals_len, uint64_t *fields, size_t fields_len);
 
 /* Writes the sheet that holds these lists; two empty line lists mean that no line is filed. The result is the number of bytes written: 32, 4 a sample and
  * 12 a segment. Refusals 1, 2, 4, 3, then 6 to 9 unless both line lists are empty, then 5 for a short output. */
-int64_t sheet_write(const int32_t *samples, size_t minutes, uint64_t smoothing, const uint32_t *lengths, size_t lengths_len, const int64_t *totals, size_t totals_len,
-                    uint8_t *out, size_t out_len);
+int64_t sheet_write(const int32_t *samples, size_t minutes, uint64_t smoothing, const uint32_t *lengths, size_t lengths_len, const int64_t *totals,
+                    size_t totals_len, uint8_t *out, size_t out_len);
 
 /* Completes a sheet: writes the same sheet with its line; one that has its line comes out unchanged. The result is the number of bytes written.
  * Refusals 10, 1, 2, 11, 12, 4, 3, then 6 to 9 where a line is filed, then 5 for a short output. */

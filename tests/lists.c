@@ -282,7 +282,9 @@ static void everywhere(const int32_t *y, size_t n, uint64_t lambda, const Line *
         /* written, then read: the same lists */
         must(sheet_write(y, n, lambda, line->length, m, line->total, m, other, size), (i64)size);
         must(sheet_read(other, size, samples, n, lengths, n, totals, n, fields, 3), (i64)m);
-        if (fields[0] != n || fields[1] != m || fields[2] != lambda || memcmp(samples, y, 4 * n) || memcmp(lengths, line->length, 4 * m) || memcmp(totals, line->total, 8 * m))
+        if (fields[0] != n || fields[1] != m || fields[2] != lambda)
+            fail("written and read, the fields differ");
+        if (memcmp(samples, y, 4 * n) || memcmp(lengths, line->length, 4 * m) || memcmp(totals, line->total, 8 * m))
             fail("written and read, the lists differ");
         /* completed, then read: the line */
         size_t whole = 32 + 4 * n + 12 * line->n;
@@ -394,7 +396,8 @@ static void writer_refusals(void)
                 want = refusal(2, 0);
             if (set & 1)
                 want = refusal(1, 0);
-            must(compare_write(series, minutes[set & 1 ? 1 : set & 2], set & 4 ? SMOOTHEST + 1 : 1, lines[l].length, lines[l].lengths, lines[l].total, lines[l].totals, set & 32 ? size - 1 : size), want);
+            size_t n = minutes[set & 1 ? 1 : set & 2], room = set & 32 ? size - 1 : size;
+            must(compare_write(series, n, set & 4 ? SMOOTHEST + 1 : 1, lines[l].length, lines[l].lengths, lines[l].total, lines[l].totals, room), want);
             series[1] = 0;
             series[3] = 9;
         }
@@ -528,7 +531,11 @@ static void random_lists(void)
     }
     for (size_t i = 0; i < mt; i++) {
         i64 most = (i64)(i < m ? length[i] : 1) * LIMIT;
-        total[i] = next() % 4 ? (i64)(next() % 9) - 4 : next() % 2 ? (i64)(next() % 2 ? most : -most) + (i64)(next() % 40 == 0) : (i64)(next() % (2 * (uint64_t)most + 1)) - most;
+        switch (next() % 8) {
+        case 0: total[i] = (next() % 2 ? most : -most) + (next() % 40 == 0); break;
+        case 1: total[i] = (i64)(next() % (2 * (uint64_t)most + 1)) - most; break;
+        default: total[i] = (i64)(next() % 9) - 4;
+        }
     }
     for (size_t i = 0; i < n; i++)
         y[i] = random_sample(&state, (int)(next() % 4));

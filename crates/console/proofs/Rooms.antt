@@ -33,27 +33,31 @@ module _ {A : Type 0} (a b : A) where
   three-set c (x ∷ y ∷ []) h = absurd (omega arith)
   three-set c (x ∷ y ∷ z ∷ l) h = refl
 
--- ---- two answers by the same tests, the last of which is for 5
+-- ---- two answers by the same tests, the last of which, t, is for 5
+abbrev Same : {A B : Type 0} → Bool → A → B → Answer A → Answer B → Type 0
+Same t u v a b = Alike (refuse-if t 5 0 (given u)) (refuse-if t 5 0 (given v)) a b
+
 module _ {A B : Type 0} (u : A) where
-  stopped-five : {a : Answer A} {b : Answer B} (t : Bool) {number place : ℕ} → Alike (refuse-if t 5 0 (given u)) (refused 5 0) a b → a ≡ refused number place → b ≡ refused number place
+  stopped-five : {a : Answer A} {b : Answer B} {number place : ℕ} (t : Bool) → Alike (refuse-if t 5 0 (given u)) (refused 5 0) a b → a ≡ refused number place → b ≡ refused number place
   stopped-five t (stop number place) e = cc
   stopped-five true pass e = cc
   stopped-five false pass e = never (sym e)
 
-  stopped-same : {a : Answer A} {b : Answer B} (t : Bool) (v : B) {number place : ℕ} → Alike (refuse-if t 5 0 (given u)) (refuse-if t 5 0 (given v)) a b → a ≡ refused number place → b ≡ refused number place
-  stopped-same t v (stop number place) e = cc
-  stopped-same true v pass e = cc
-  stopped-same false v pass e = never (sym e)
+  module _ (v : B) where
+    stopped-same : {a : Answer A} {b : Answer B} {number place : ℕ} (t : Bool) → Same t u v a b → a ≡ refused number place → b ≡ refused number place
+    stopped-same t (stop number place) e = cc
+    stopped-same true pass e = cc
+    stopped-same false pass e = never (sym e)
 
-  given-same : {a : Answer A} {b : Answer B} (t : Bool) (v : B) (x : A) → Alike (refuse-if t 5 0 (given u)) (refuse-if t 5 0 (given v)) a b → a ≡ given x → (x ≡ u) × (b ≡ given v)
-  given-same t v x (stop number place) e = never e
-  given-same true v x pass e = never e
-  given-same false v x pass e = (sym (same-given e), refl)
+    given-same : {a : Answer A} {b : Answer B} (t : Bool) (x : A) → Same t u v a b → a ≡ given x → (x ≡ u) × (b ≡ given v)
+    given-same t x (stop number place) e = never e
+    given-same true x pass e = never e
+    given-same false x pass e = (sym (same-given e), refl)
 
-  left-same : {C : Type 0} {a : Answer A} {b : Answer B} (t : Bool) (v : B) (new old : C) → Alike (refuse-if t 5 0 (given u)) (refuse-if t 5 0 (given v)) a b → on-success a new old ≡ on-success b new old
-  left-same t v new old (stop number place) = refl
-  left-same true v new old pass = refl
-  left-same false v new old pass = refl
+    left-same : {C : Type 0} {a : Answer A} {b : Answer B} (t : Bool) (new old : C) → Same t u v a b → on-success a new old ≡ on-success b new old
+    left-same t new old (stop number place) = refl
+    left-same true new old pass = refl
+    left-same false new old pass = refl
 
 left-five : {A B C : Type 0} {a : Answer A} {b : Answer B} (new old : C) → Alike {A = A} {B = B} (refused 5 0) (refused 5 0) a b → old ≡ on-success b new old
 left-five new old (stop number place) = refl
@@ -81,14 +85,14 @@ module _ (s : List ℕ) (ys : List ℤ) (ns : List ℕ) (ts : List ℤ) where
 
     -- ---- enough of them
     module _ (h : 3 ≤ length fs) where
-      alike : Alike (refuse-if short 5 0 (given (fields s))) (refuse-if short 5 0 (given (segment-count s))) (readOf s ys ns ts) (readingOf s ys ns ts fs)
+      alike : Same short (fields s) (segment-count s) (readOf s ys ns ts) (readingOf s ys ns ts fs)
       alike = rw (le-ltb (length fs) 3 h) (accepted-alike s)
 
       pub read-refused : {number place : ℕ} → readOf s ys ns ts ≡ refused number place → readingOf s ys ns ts fs ≡ refused number place
-      read-refused e = stopped-same (fields s) short (segment-count s) alike e
+      read-refused e = stopped-same (fields s) (segment-count s) short alike e
 
       pub read-given : {f : Fields} → readOf s ys ns ts ≡ given f → (f ≡ fields s) × (readingOf s ys ns ts fs ≡ given (segment-count s))
-      read-given {f} e = given-same (fields s) short (segment-count s) f alike e
+      read-given {f} e = given-same (fields s) (segment-count s) short f alike e
 
       pub read-lists : {C : Type 0} (new old : C) → on-success (readOf s ys ns ts) new old ≡ on-success (readingOf s ys ns ts fs) new old
-      read-lists new old = left-same (fields s) short (segment-count s) new old alike
+      read-lists new old = left-same (fields s) (segment-count s) short new old alike

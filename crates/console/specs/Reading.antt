@@ -18,7 +18,10 @@ three f = f .minutes ∷ f .segments ∷ f .smoothing ∷ []
 
 module _ (s : List ℕ) (ys : List ℤ) (ns : List ℕ) (ts : List ℤ) (fs : List ℕ) where
   abbrev pub readingOf : Answer ℕ
-  readingOf = accepted s (refuse-if (ltb (length fs) 3 || (ltb (length ys) (minutes s) || (ltb (length ns) (minutes s) || ltb (length ts) (minutes s)))) 5 0 (given (segment-count s)))
+  readingOf =
+      accepted s
+      (refuse-if (ltb (length fs) 3 || (ltb (length ys) (minutes s) || (ltb (length ns) (minutes s) || ltb (length ts) (minutes s)))) 5 0
+      (given (segment-count s)))
 
   -- what the lists then hold
   abbrev pub samplesRead : List ℤ

@@ -153,7 +153,7 @@ pub extern "C" fn sheet_read(
     }
 }
 
-// What a sheet gets that is read into no room: its refusal, or 5.
+// The refusal of a sheet for which there is no room: 5 where there is no other.
 fn no_room(sheet: &[u8]) -> i64
     ensures { λ r. ⌜ r ≡ code (accepted (now (sheet .entry)) (refused 5 0)) ⌝ }
 {
