@@ -1,5 +1,6 @@
-# run: the program on an example sheet; client: the C client on it; test: the gate; examples: the sheets anew; fmt: every file's layout
-.PHONY: run client test examples fmt
+# run: the program on an example sheet; client: the C client on it; test: the gate; bench: the measurements; examples: the sheets anew;
+# picture: the drawing of one of them anew; fmt: every file's layout
+.PHONY: run client test bench examples picture fmt
 
 run:
 	@log=$$(rt check complete_sheet 2>&1) || { echo "$$log"; exit 1; }
@@ -13,6 +14,9 @@ client:
 
 test:
 	bash .ci/run
+
+bench:
+	bash bench/run
 
 examples:
 	python3 examples/make_sheets.py

@@ -32,11 +32,6 @@ static void fail(const char *what, const int32_t *y, size_t n, uint64_t lambda, 
 static Line want, got;
 static i64 duals[MOST + 8];
 
-static int same_line(const Line *a, const Line *b)
-{
-    return a->n == b->n && memcmp(a->length, b->length, a->n * sizeof a->length[0]) == 0 && memcmp(a->total, b->total, a->n * sizeof a->total[0]) == 0;
-}
-
 static void compare_line(const int32_t *y, size_t n, uint64_t lambda, const Line *expected)
 {
     size_t room = n + 3 < MOST ? n + 3 : MOST;

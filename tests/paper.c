@@ -4,6 +4,11 @@
 
 typedef __int128 wide;
 
+int same_line(const Line *a, const Line *b)
+{
+    return a->n == b->n && memcmp(a->length, b->length, a->n * sizeof a->length[0]) == 0 && memcmp(a->total, b->total, a->n * sizeof a->total[0]) == 0;
+}
+
 i64 refusal(i64 number, i64 place)
 {
     return -(256 * place + number);
@@ -123,7 +128,8 @@ int paper_line_short(const int32_t *y, size_t n, uint64_t lambda, Line *out)
 }
 
 /* ---- the line of a long series: the taut string through the tube of half width lambda around the running sums, 0 at both ends. The least
- * concave majorant of the tube's floor and the greatest convex minorant of its roof, both from the last knot, are kept as hulls */
+ * concave majorant of the tube's floor and the greatest convex minorant of its roof, both from the last knot, are kept as hulls. Two points of
+ * the tube differ by at most 2^16 minutes and 2^40 + 2 * 2^40 tenths, so no product here reaches 2^58 and 64 bits hold their differences */
 typedef struct {
     size_t first, last;
     i64 x[MOST + 2], z[MOST + 2];
@@ -132,8 +138,8 @@ typedef struct {
 /* the hull bends the wrong way at its last point, seen from (x, z) */
 static int bends(const Hull *h, i64 x, i64 z, int sign)
 {
-    wide before = (wide)(h->z[h->last] - h->z[h->last - 1]) * (x - h->x[h->last]);
-    wide after = (wide)(z - h->z[h->last]) * (h->x[h->last] - h->x[h->last - 1]);
+    i64 before = (h->z[h->last] - h->z[h->last - 1]) * (x - h->x[h->last]);
+    i64 after = (z - h->z[h->last]) * (h->x[h->last] - h->x[h->last - 1]);
     return sign * (before - after) <= 0;
 }
 
@@ -160,8 +166,8 @@ static void follow(Hull *one, Hull *other, i64 x, i64 z, int sign, Line *out)
         return;
     while (other->last > other->first + 1) {
         size_t f = other->first;
-        wide direct = (wide)(z - other->z[f]) * (other->x[f + 1] - other->x[f]);
-        wide edge = (wide)(other->z[f + 1] - other->z[f]) * (x - other->x[f]);
+        i64 direct = (z - other->z[f]) * (other->x[f + 1] - other->x[f]);
+        i64 edge = (other->z[f + 1] - other->z[f]) * (x - other->x[f]);
         if (sign * (direct - edge) <= 0)
             return;
         emit(out, other->x[f + 1] - other->x[f], other->z[f + 1] - other->z[f]);
@@ -186,9 +192,43 @@ void paper_line_long(const int32_t *y, size_t n, uint64_t lambda, Line *out)
         follow(&floor, &roof, (i64)k, sum - w, 1, out);
         follow(&roof, &floor, (i64)k, sum + w, -1, out);
     }
-    Hull *h = floor.last - floor.first >= roof.last - roof.first ? &floor : &roof;
+    const Hull *h = floor.last - floor.first >= roof.last - roof.first ? &floor : &roof;
     for (size_t f = h->first; f < h->last; f++)
         emit(out, h->x[f + 1] - h->x[f], h->z[f + 1] - h->z[f]);
+}
+
+/* ---- the sheet, from the paper's table */
+uint64_t get(const uint8_t *p, int width)
+{
+    uint64_t x = 0;
+    for (int i = width; i-- > 0;)
+        x = x << 8 | p[i];
+    return x;
+}
+
+void put(uint8_t *p, int width, uint64_t x)
+{
+    for (int i = 0; i < width; i++, x >>= 8)
+        p[i] = (uint8_t)x;
+}
+
+size_t paper_sheet(uint8_t *out, const int32_t *y, size_t n, uint64_t lambda, const Line *line)
+{
+    size_t m = line ? line->n : 0, size = 32 + 4 * n + 12 * m;
+    put(out, 4, n);
+    put(out + 4, 4, m);
+    put(out + 8, 4, 32);
+    put(out + 12, 4, 32 + 4 * n);
+    put(out + 16, 8, lambda);
+    put(out + 24, 4, size);
+    put(out + 28, 4, 0);
+    for (size_t i = 0; i < n; i++)
+        put(out + 32 + 4 * i, 4, (uint32_t)y[i]);
+    for (size_t s = 0; s < m; s++) {
+        put(out + 32 + 4 * n + 12 * s, 4, line->length[s]);
+        put(out + 36 + 4 * n + 12 * s, 8, (uint64_t)line->total[s]);
+    }
+    return size;
 }
 
 uint64_t next_number(uint64_t *state)
