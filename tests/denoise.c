@@ -299,7 +299,8 @@ static void refusals(void)
             c.length[i] = (uint32_t)(next() % 4);
             c.total[i] = (i64)(next() % 9);
         }
-        compare_check(s, n, next() % 4, &c, next() % 8 ? c.n : next() % 5);
+        uint64_t lambda = next() % 4;
+        compare_check(s, n, lambda, &c, next() % 8 ? c.n : next() % 5);
     }
 }
 

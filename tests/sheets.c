@@ -1,7 +1,10 @@
 /* Completes sheets through the C entry and compares result, every output byte and untouched memory with an implementation written from paper 01
  * alone: sheets without a line, with their line, damaged in a bit, a field, a segment or their length, outputs exact, too short and too long.
  *
- *     sheets [COUNT]      COUNT random sheets (default 200000), then long ones
+ *     sheets [COUNT [GUARD]]      COUNT random sheets (default 200000), then long ones
+ *
+ * Each call gets areas of its own from malloc, with GUARD bytes (default 64) before and after that must stay as they are. With GUARD 0 the areas are
+ * exactly as long as the call is told: for a run under valgrind, which then sees every access outside of them.
  *
  * Seeds are fixed. A difference prints the seed and the sheet. */
 #include <inttypes.h>
@@ -12,45 +15,10 @@
 #include "../include/dawhikura.h"
 #include "paper.h"
 
-enum { SIZE = 32 + 4 * MOST + 12 * MOST, GUARD = 64 };
-
-/* ---- the sheet, from the paper's table */
-static uint64_t get(const uint8_t *p, int width)
-{
-    uint64_t x = 0;
-    for (int i = width; i-- > 0;)
-        x = x << 8 | p[i];
-    return x;
-}
-
-static void put(uint8_t *p, int width, uint64_t x)
-{
-    for (int i = 0; i < width; i++, x >>= 8)
-        p[i] = (uint8_t)x;
-}
-
-static size_t build(uint8_t *out, const int32_t *y, size_t n, uint64_t lambda, const Line *line)
-{
-    size_t m = line ? line->n : 0, size = 32 + 4 * n + 12 * m;
-    put(out, 4, n);
-    put(out + 4, 4, m);
-    put(out + 8, 4, 32);
-    put(out + 12, 4, 32 + 4 * n);
-    put(out + 16, 8, lambda);
-    put(out + 24, 4, size);
-    put(out + 28, 4, 0);
-    for (size_t i = 0; i < n; i++)
-        put(out + 32 + 4 * i, 4, (uint32_t)y[i]);
-    for (size_t s = 0; s < m; s++) {
-        put(out + 32 + 4 * n + 12 * s, 4, line->length[s]);
-        put(out + 36 + 4 * n + 12 * s, 8, (uint64_t)line->total[s]);
-    }
-    return size;
-}
-
-static int32_t y[MOST + 8];
+/* ---- completing, from the paper */
+static int32_t y[MOST];
 static Line line;
-static uint8_t expected[SIZE + GUARD];
+static uint8_t expected[SHEET];
 
 /* the result, and the bytes written in `expected` */
 static i64 paper_complete(const uint8_t *s, size_t size, size_t room)
@@ -90,22 +58,57 @@ static i64 paper_complete(const uint8_t *s, size_t size, size_t room)
         paper_line_long(y, n, lambda, &line);
     if (32 + 4 * n + 12 * line.n > room)
         return refusal(5, 0);
-    return (i64)build(expected, y, n, lambda, &line);
+    return (i64)paper_sheet(expected, y, n, lambda, &line);
+}
+
+/* ---- the areas of a call */
+enum { FILL = 0xa5 };
+
+static size_t guard = 64;
+
+static uint8_t *lend(size_t size)
+{
+    uint8_t *block = malloc(size + 2 * guard);
+    if (!block) {
+        printf("out of memory\n");
+        exit(2);
+    }
+    memset(block, FILL, size + 2 * guard);
+    return block + guard;
+}
+
+static void give_back(uint8_t *area)
+{
+    free(area - guard);
+}
+
+/* the bytes of an area from `used` on, and the guards on both sides, are as lent */
+static int kept(const uint8_t *area, size_t used, size_t size)
+{
+    for (const uint8_t *p = area - guard; p < area + size + guard; p++)
+        if ((p < area || p >= area + used) && *p != FILL)
+            return 0;
+    return 1;
 }
 
 /* ---- the comparison */
 static uint64_t seed, state;
-static unsigned long calls, completed, numbers[32];
-static uint8_t out[SIZE + 3 * GUARD], copy[SIZE + GUARD];
+static unsigned long sheets, filed, damaged, calls, completed, numbers[256];
+
+static void start(uint64_t with)
+{
+    seed = with;
+    state = seed * 0x9e3779b97f4a7c15u;
+}
 
 static uint64_t next(void)
 {
     return next_number(&state);
 }
 
-static void fail(const char *what, const uint8_t *s, size_t size)
+static void fail(const char *what, const uint8_t *s, size_t size, size_t room)
 {
-    printf("%s: seed %" PRIu64 ", sheet of %zu bytes", what, seed, size);
+    printf("%s: seed %" PRIu64 ", output of %zu bytes, sheet of %zu bytes", what, seed, room, size);
     for (size_t i = 0; i < size && i < 400; i++)
         printf("%s%02x", i % 4 ? "" : " ", s[i]);
     printf("\n");
@@ -114,46 +117,46 @@ static void fail(const char *what, const uint8_t *s, size_t size)
 
 static void compare(const uint8_t *s, size_t size, size_t room)
 {
-    memset(out, 0xa5, room + 2 * GUARD);
-    memcpy(copy, s, size);
+    uint8_t *in = lend(size), *out = lend(room);
+    memcpy(in, s, size);
     i64 want = paper_complete(s, size, room);
-    i64 got = sheet_complete(s, size, out + GUARD, room);
-    calls++;
-    if (want != got) {
-        printf("expected %" PRId64 ", got %" PRId64 "; ", want, got);
-        fail("another result", s, size);
-    }
+    i64 got = sheet_complete(in, size, out, room);
     size_t written = got > 0 ? (size_t)got : 0;
+    calls++;
     if (got > 0)
         completed++;
     else
-        numbers[-got % 256 % 32]++;
-    if (memcmp(out + GUARD, expected, written))
-        fail("other bytes", s, size);
-    for (size_t i = 0; i < GUARD; i++)
-        if (out[i] != 0xa5)
-            fail("a byte before the output was touched", s, size);
-    for (size_t i = GUARD + written; i < room + 2 * GUARD; i++)
-        if (out[i] != 0xa5)
-            fail("a byte past the result was touched", s, size);
-    if (memcmp(copy, s, size))
-        fail("the sheet was touched", s, size);
+        numbers[-got % 256]++;
+    if (want != got) {
+        printf("expected %" PRId64 ", got %" PRId64 "; ", want, got);
+        fail("another result", s, size, room);
+    }
+    if (memcmp(out, expected, written))
+        fail("other bytes", s, size, room);
+    if (!kept(out, written, room))
+        fail("a byte around the output, or past the result, was touched", s, size, room);
+    if (memcmp(in, s, size) || !kept(in, size, size))
+        fail("the sheet, or a byte around it, was touched", s, size, room);
+    give_back(in);
+    give_back(out);
 }
 
-/* with the output longer than it need be, exact and one byte short */
+/* with the output longer than it need be, exact, one byte short and shorter */
 static void compare_rooms(const uint8_t *s, size_t size)
 {
-    compare(s, size, size + 12 * (size < 400 ? 40 : 0) + next() % 20);
-    i64 r = paper_complete(s, size, SIZE);
-    if (r > 0) {
-        compare(s, size, (size_t)r);
-        compare(s, size, (size_t)r - 1);
-        compare(s, size, next() % (size_t)r);
+    i64 r = paper_complete(s, size, SHEET);
+    if (r <= 0) {
+        compare(s, size, size + next() % 500);
+        return;
     }
+    compare(s, size, (size_t)r + 1 + next() % 500);
+    compare(s, size, (size_t)r);
+    compare(s, size, (size_t)r - 1);
+    compare(s, size, next() % (size_t)r);
 }
 
 /* ---- random sheets */
-static uint8_t sheet[SIZE + GUARD];
+static uint8_t sheet[SHEET + 1]; /* a sheet, or one byte more */
 
 static int32_t draw(int kind)
 {
@@ -165,81 +168,101 @@ static int32_t draw(int kind)
     }
 }
 
+/* up or down by 1 */
+static void nudge(uint8_t *p, int width)
+{
+    put(p, width, get(p, width) + (next() % 2 ? 1 : -1));
+}
+
+static void damage_segment(void)
+{
+    size_t n = get(sheet, 4), m = get(sheet + 4, 4);
+    if (m == 0)
+        return;
+    size_t s = next() % m;
+    uint8_t *p = sheet + 32 + 4 * n + 12 * s;
+    switch (next() % 5) {
+    case 0: nudge(p, 4); break;
+    case 1: put(p, 4, next() % 3); break;
+    case 2: nudge(p + 4, 8); break;
+    case 3: put(p + 4, 8, next() << 11); break;
+    default: /* the same as the one before */
+        if (s > 0)
+            memcpy(p, p - 12, 12);
+    }
+}
+
+/* the length afterwards */
 static size_t damage(size_t size)
 {
-    size_t at;
-    switch (next() % 8) {
-    case 0: /* a bit */
-        sheet[next() % size] ^= (uint8_t)(1 << next() % 8);
-        break;
-    case 1: /* a field */
-        at = (size_t[]){0, 4, 8, 12, 24, 28}[next() % 6];
-        put(sheet + at, 4, next() % 3 ? get(sheet + at, 4) + 1 - 2 * (next() % 2) : next());
-        break;
-    case 2: /* the smoothing */
-        put(sheet + 16, 8, next() % 2 ? SMOOTHEST + next() % 2 : next());
-        break;
-    case 3: /* a byte of length */
+    static const size_t fields[] = {0, 4, 8, 12, 24, 28};
+    uint8_t *any = sheet + next() % size, *field = sheet + fields[next() % 6], *sample = sheet + 32 + 4 * (next() % get(sheet, 4));
+    switch (next() % 9) {
+    case 0: *any ^= (uint8_t)(1 << next() % 8); break;
+    case 1: nudge(field, 4); break;
+    case 2: put(field, 4, next()); break;
+    case 3: put(sheet + 16, 8, next() % 2 ? SMOOTHEST + next() % 2 : next()); break;
+    case 4: put(sample, 4, next() % 2 ? (uint64_t)LIMIT + next() % 2 : next()); break;
+    case 5: size = next() % (size + 1); break;
+    case 6: /* a byte of length, told in field 24 or not */
         size = next() % 2 ? size + 1 : size - 1;
         if (next() % 2)
             put(sheet + 24, 4, size);
         break;
-    case 4: /* any length */
-        size = next() % (size + 1);
-        break;
-    case 5: /* a sample */
-        at = 32 + 4 * (next() % get(sheet, 4));
-        put(sheet + at, 4, next() % 2 ? (uint64_t)LIMIT + next() % 2 : next());
-        break;
-    default: /* a segment */
-        if (get(sheet + 4, 4) > 0) {
-            at = 32 + 4 * get(sheet, 4) + 12 * (next() % get(sheet + 4, 4));
-            if (next() % 2)
-                put(sheet + at, 4, next() % 2 ? get(sheet + at, 4) + 1 - 2 * (next() % 2) : next() % 3);
-            else
-                put(sheet + at + 4, 8, next() % 3 ? get(sheet + at + 4, 8) + 1 - 2 * (next() % 2) : next() << 11);
-        }
+    default: damage_segment();
     }
+    return size;
+}
+
+/* the sheet of n samples of a kind, with or without its line */
+static size_t build(size_t n, int kind, uint64_t lambda, int with)
+{
+    static int32_t samples[MOST];
+    static Line own;
+    for (size_t i = 0; i < n; i++)
+        samples[i] = draw(kind);
+    if (with)
+        paper_line_long(samples, n, lambda, &own);
+    sheets++;
+    filed += with;
+    size_t size = paper_sheet(sheet, samples, n, lambda, with ? &own : NULL);
+    sheet[size] = 0;
     return size;
 }
 
 static void random_sheet(void)
 {
-    static int32_t samples[64];
-    size_t n = 1 + next() % (next() % 4 ? 8 : 40);
-    int kind = (int)(next() % 4);
-    for (size_t i = 0; i < n; i++)
-        samples[i] = draw(kind);
+    size_t most = next() % 4 ? 8 : 40, n = 1 + next() % most;
     uint64_t lambda = next() % 4 ? next() % 30 : next() % (SMOOTHEST + 1);
-    static Line own;
-    int with = next() % 2;
-    if (with)
-        paper_line_long(samples, n, lambda, &own);
-    memset(sheet, 0, 32 + 4 * n + 12 * n + GUARD);
-    size_t size = build(sheet, samples, n, lambda, with ? &own : NULL);
-    if (next() % 2)
+    int kind = next() % 4, with = next() % 2;
+    size_t size = build(n, kind, lambda, with);
+    if (next() % 2) {
+        damaged++;
         size = damage(size);
+    }
     compare_rooms(sheet, size);
 }
 
-/* ---- long sheets */
+/* ---- long sheets: as they are, then with a bit changed */
+static void long_sheet(size_t n, int kind, int with)
+{
+    uint64_t lambda = (uint64_t[]){0, 50, 100000, SMOOTHEST}[next() % 4];
+    size_t size = build(n, kind, lambda, with);
+    compare_rooms(sheet, size);
+    sheets++;
+    damaged++;
+    sheet[32 + next() % (size - 32)] ^= 1;
+    compare_rooms(sheet, size);
+}
+
 static void long_sheets(void)
 {
-    static int32_t samples[MOST];
-    static Line own;
     static const size_t sizes[] = {1440, 44640, MOST};
     for (int a = 0; a < 3; a++)
         for (int kind = 0; kind < 4; kind++)
             for (int with = 0; with < 2; with++) {
-                size_t n = sizes[a];
-                uint64_t lambda = (uint64_t[]){0, 50, 100000, SMOOTHEST}[next() % 4];
-                for (size_t i = 0; i < n; i++)
-                    samples[i] = draw(kind);
-                paper_line_long(samples, n, lambda, &own);
-                size_t size = build(sheet, samples, n, lambda, with ? &own : NULL);
-                compare_rooms(sheet, size);
-                sheet[32 + next() % (size - 32)] ^= 1;
-                compare_rooms(sheet, size);
+                start(seed + 1);
+                long_sheet(sizes[a], kind, with);
             }
     /* one minute more than there may be */
     memset(sheet, 0, sizeof sheet);
@@ -247,19 +270,20 @@ static void long_sheets(void)
     put(sheet + 8, 4, 32);
     put(sheet + 12, 4, 32 + 4 * (MOST + 1));
     put(sheet + 24, 4, 32 + 4 * (MOST + 1));
-    compare(sheet, 32 + 4 * (MOST + 1), SIZE);
+    compare(sheet, 32 + 4 * (MOST + 1), SHEET);
 }
 
 int main(int argc, char **argv)
 {
     unsigned long count = argc > 1 ? strtoul(argv[1], NULL, 10) : 200000;
-    for (seed = 1; seed <= count; seed++) {
-        state = seed * 0x9e3779b97f4a7c15u;
+    if (argc > 2)
+        guard = strtoul(argv[2], NULL, 10);
+    for (unsigned long i = 1; i <= count; i++) {
+        start(i);
         random_sheet();
     }
-    state = 12345;
     long_sheets();
-    printf("sheets %lu calls %lu completed %lu refused", count, calls, completed);
+    printf("sheets %lu (%lu with a line, %lu damaged) calls %lu completed %lu refused", sheets, filed, damaged, calls, completed);
     for (int i = 1; i < 13; i++)
         printf(" %d:%lu", i, numbers[i]);
     printf(": all agree\n");
