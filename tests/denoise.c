@@ -32,11 +32,6 @@ static void fail(const char *what, const int32_t *y, size_t n, uint64_t lambda, 
 static Line want, got;
 static i64 duals[MOST + 8];
 
-static int same_line(const Line *a, const Line *b)
-{
-    return a->n == b->n && memcmp(a->length, b->length, a->n * sizeof a->length[0]) == 0 && memcmp(a->total, b->total, a->n * sizeof a->total[0]) == 0;
-}
-
 static void compare_line(const int32_t *y, size_t n, uint64_t lambda, const Line *expected)
 {
     size_t room = n + 3 < MOST ? n + 3 : MOST;
@@ -282,7 +277,8 @@ static void refusals(void)
             c.length[i] = (uint32_t)(next() % 4);
             c.total[i] = (i64)(next() % 9);
         }
-        compare_check(s, n, next() % 4, &c, next() % 8 ? c.n : next() % 5);
+        uint64_t lambda = next() % 4;
+        compare_check(s, n, lambda, &c, next() % 8 ? c.n : next() % 5);
     }
 }
 

@@ -2,7 +2,10 @@
  * the inputs with an implementation written from paper 01 alone. Known lines; every refusal beside those that come after it; lists exact, too short
  * and longer; 1 and 65,536 minutes; random and damaged sheets, and lists of any shape; the stack that the header names.
  *
- *     lists [COUNT]      COUNT random sheets (default 40000)
+ *     lists [COUNT [GUARD]]      COUNT random sheets (default 40000)
+ *
+ * Each call gets areas of its own from malloc, with GUARD bytes (default 64) before and after that must stay as they are. With GUARD 0 the areas are
+ * exactly as long as the call is told, fewer sets of refusals are tried and no stack: for a run under valgrind.
  *
  * Seeds are fixed. A difference prints the seed and what was handed over. */
 #define _GNU_SOURCE
@@ -16,10 +19,9 @@
 #include "../include/dawhikura.h"
 #include "paper.h"
 
-enum { GUARD = 64, PAST = 4096 };
-
+static size_t guard = 64;
 static uint64_t seed, state;
-static unsigned long reads, writes, segments, marks, completed, numbers[32];
+static unsigned long reads, writes, segments, marks, completed, numbers[256];
 
 static uint64_t next(void)
 {
@@ -62,24 +64,32 @@ static void fail(const char *what)
     exit(1);
 }
 
-/* ---- lent areas, each beside what it must hold after the call; and the inputs beside what they held before it */
+/* ---- the areas of a call, each beside what it must hold afterwards */
 static struct {
-    _Alignas(16) uint8_t got[SIZE + PAST];
-    _Alignas(16) uint8_t want[SIZE + PAST];
+    uint8_t *got, *want;
     size_t bytes;
-} lent[4];
-static struct {
-    const void *at;
-    size_t bytes;
-    uint8_t copy[SIZE + PAST];
-} input[3];
+} areas[5];
+static int used;
 
-static void *lend(int i, size_t bytes)
+static uint8_t *block(size_t bytes)
 {
-    lent[i].bytes = bytes + 2 * GUARD;
-    memset(lent[i].got, 0xa5 - i, lent[i].bytes);
-    memset(lent[i].want, 0xa5 - i, lent[i].bytes);
-    return lent[i].got + GUARD;
+    uint8_t *p = malloc(bytes);
+    if (!p && bytes) {
+        printf("out of memory\n");
+        exit(2);
+    }
+    if (bytes)
+        memset(p, 0xa5 - used, bytes);
+    return p;
+}
+
+/* entries for the call to fill */
+static void *lend(size_t bytes)
+{
+    areas[used].bytes = bytes + 2 * guard;
+    areas[used].got = block(areas[used].bytes);
+    areas[used].want = block(areas[used].bytes);
+    return areas[used++].got + guard;
 }
 
 static void copy(void *to, const void *from, size_t bytes)
@@ -88,32 +98,36 @@ static void copy(void *to, const void *from, size_t bytes)
         memcpy(to, from, bytes);
 }
 
+/* that the area number i, counted from 0, begins with these entries after the call */
 static void expect(int i, const void *entries, size_t bytes)
 {
-    copy(lent[i].want + GUARD, entries, bytes);
+    copy(areas[i].want + guard, entries, bytes);
 }
 
-static void hand(int i, const void *at, size_t bytes)
+/* an input, which stays as it is */
+static const void *hand(const void *entries, size_t bytes)
 {
-    input[i].at = at;
-    input[i].bytes = bytes;
-    copy(input[i].copy, at, bytes);
+    void *p = lend(bytes);
+    copy(p, entries, bytes);
+    expect(used - 1, entries, bytes);
+    return p;
 }
 
-static i64 judge(i64 want, i64 got, int areas, int inputs)
+static i64 judge(i64 want, i64 got)
 {
     if (got != want) {
         printf("expected %" PRId64 ", got %" PRId64 "; ", want, got);
         fail("another result");
     }
     if (got < 0)
-        numbers[-got % 256 % 32]++;
-    for (int i = 0; i < areas; i++)
-        if (memcmp(lent[i].got, lent[i].want, lent[i].bytes))
-            fail("a lent area holds something else");
-    for (int i = 0; i < inputs; i++)
-        if (input[i].bytes && memcmp(input[i].at, input[i].copy, input[i].bytes))
-            fail("an input was touched");
+        numbers[-got % 256]++;
+    while (used > 0) {
+        used--;
+        if (areas[used].bytes && memcmp(areas[used].got, areas[used].want, areas[used].bytes))
+            fail("an area holds something else");
+        free(areas[used].got);
+        free(areas[used].want);
+    }
     return got;
 }
 
@@ -126,12 +140,12 @@ static i64 compare_read(const uint8_t *sheet, size_t size, const size_t room[4])
     handed.call = "sheet_read";
     handed.sheet = sheet;
     handed.size = size;
-    memcpy(handed.room, room, sizeof handed.room);
-    hand(0, sheet, size);
-    int32_t *samples = lend(0, 4 * room[0]);
-    uint32_t *lengths = lend(1, 4 * room[1]);
-    i64 *totals = lend(2, 8 * room[2]);
-    uint64_t *fields = lend(3, 8 * room[3]);
+    copy(handed.room, room, sizeof handed.room);
+    int32_t *samples = lend(4 * room[0]);
+    uint32_t *lengths = lend(4 * room[1]);
+    i64 *totals = lend(8 * room[2]);
+    uint64_t *fields = lend(8 * room[3]);
+    const uint8_t *in = hand(sheet, size);
     i64 want = paper_read(sheet, size, y, &line);
     if (want == 0) {
         uint64_t three[] = {get(sheet, 4), line.n, get(sheet + 16, 8)};
@@ -146,32 +160,32 @@ static i64 compare_read(const uint8_t *sheet, size_t size, const size_t room[4])
         }
     }
     reads++;
-    return judge(want, sheet_read(sheet, size, samples, room[0], lengths, room[1], totals, room[2], fields, room[3]), 4, 1);
+    return judge(want, sheet_read(in, size, samples, room[0], lengths, room[1], totals, room[2], fields, room[3]));
 }
 
-static void hand_line(size_t n, const uint32_t *length, size_t lengths, const i64 *total, size_t totals)
+static void hand_line(const char *call, size_t n, const uint32_t *length, size_t lengths, const i64 *total, size_t totals)
 {
     memset(&handed, 0, sizeof handed);
+    handed.call = call;
     handed.minutes = n;
     handed.length = length;
     handed.lengths = lengths;
     handed.total = total;
     handed.totals = totals;
-    hand(0, length, 4 * lengths);
-    hand(1, total, 8 * totals);
 }
 
 static i64 compare_write(const int32_t *y, size_t n, uint64_t lambda, const uint32_t *length, size_t lengths, const i64 *total, size_t totals, size_t room)
 {
     static Line line;
-    static uint8_t sheet[SIZE];
-    hand_line(n, length, lengths, total, totals);
-    handed.call = "sheet_write";
+    static uint8_t sheet[SHEET];
+    hand_line("sheet_write", n, length, lengths, total, totals);
     handed.y = y;
     handed.lambda = lambda;
     handed.room[0] = room;
-    hand(2, y, 4 * n);
-    uint8_t *out = lend(0, room);
+    uint8_t *out = lend(room);
+    const int32_t *y_in = hand(y, 4 * n);
+    const uint32_t *length_in = hand(length, 4 * lengths);
+    const i64 *total_in = hand(total, 8 * totals);
     i64 want = paper_judge(y, n, lambda, length, lengths, total, totals);
     if (want == 0) {
         line.n = lengths;
@@ -184,16 +198,17 @@ static i64 compare_write(const int32_t *y, size_t n, uint64_t lambda, const uint
             expect(0, sheet, (size_t)want);
     }
     writes++;
-    return judge(want, sheet_write(y, n, lambda, length, lengths, total, totals, out, room), 1, 3);
+    return judge(want, sheet_write(y_in, n, lambda, length_in, lengths, total_in, totals, out, room));
 }
 
 static i64 compare_segments(size_t n, const uint32_t *length, size_t lengths, const i64 *total, size_t totals, const size_t room[3])
 {
-    hand_line(n, length, lengths, total, totals);
-    handed.call = "chart_segments";
-    memcpy(handed.room, room, 3 * sizeof room[0]);
-    uint32_t *firsts = lend(0, 4 * room[0]), *lasts = lend(1, 4 * room[1]);
-    double *levels = lend(2, 8 * room[2]);
+    hand_line("chart_segments", n, length, lengths, total, totals);
+    copy(handed.room, room, 3 * sizeof room[0]);
+    uint32_t *firsts = lend(4 * room[0]), *lasts = lend(4 * room[1]);
+    double *levels = lend(8 * room[2]);
+    const uint32_t *length_in = hand(length, 4 * lengths);
+    const i64 *total_in = hand(total, 8 * totals);
     i64 want = paper_shape(n, length, lengths, total, totals);
     if (want == 0 && (room[0] < lengths || room[1] < lengths || room[2] < lengths))
         want = refusal(5, 0);
@@ -202,31 +217,32 @@ static i64 compare_segments(size_t n, const uint32_t *length, size_t lengths, co
         for (size_t s = 0; s < lengths; s++) {
             uint32_t first = minute + 1, last = minute += length[s];
             double level = paper_plot(length[s], total[s]);
-            copy(lent[0].want + GUARD + 4 * s, &first, sizeof first);
-            copy(lent[1].want + GUARD + 4 * s, &last, sizeof last);
-            copy(lent[2].want + GUARD + 8 * s, &level, sizeof level);
+            copy(areas[0].want + guard + 4 * s, &first, sizeof first);
+            copy(areas[1].want + guard + 4 * s, &last, sizeof last);
+            copy(areas[2].want + guard + 8 * s, &level, sizeof level);
         }
         want = (i64)lengths;
     }
     segments++;
-    return judge(want, chart_segments(n, length, lengths, total, totals, firsts, room[0], lasts, room[1], levels, room[2]), 3, 2);
+    return judge(want, chart_segments(n, length_in, lengths, total_in, totals, firsts, room[0], lasts, room[1], levels, room[2]));
 }
 
 static i64 compare_mark(size_t n, const uint32_t *length, size_t lengths, const i64 *total, size_t totals, size_t minute, size_t room)
 {
     double level[2];
-    hand_line(n, length, lengths, total, totals);
-    handed.call = "chart_mark";
+    hand_line("chart_mark", n, length, lengths, total, totals);
     handed.minute = minute;
     handed.room[0] = room;
-    double *levels = lend(0, 8 * room);
+    double *levels = lend(8 * room);
+    const uint32_t *length_in = hand(length, 4 * lengths);
+    const i64 *total_in = hand(total, 8 * totals);
     i64 want = paper_mark(n, length, lengths, total, totals, minute, level);
     if (want >= 0 && room < 2)
         want = refusal(5, 0);
     if (want >= 0)
         expect(0, level, sizeof level);
     marks++;
-    return judge(want, chart_mark(n, length, lengths, total, totals, minute, levels, room), 1, 2);
+    return judge(want, chart_mark(n, length_in, lengths, total_in, totals, minute, levels, room));
 }
 
 /* that a call, just compared with the paper's implementation, got what is written here by hand */
@@ -254,7 +270,7 @@ static void chart(size_t n, const Line *line, size_t step)
     must(compare_mark(n, line->length, m, line->total, m, n + 1, 1), refusal(13, 0));
 }
 
-static uint8_t sheet[SIZE + PAST], other[SIZE + PAST];
+static uint8_t sheet[SHEET + 1], other[SHEET + 1]; /* a sheet, or one byte more */
 
 /* a sheet without and one with its line: read, written and completed, with lists and outputs exact, too short and longer */
 static void everywhere(const int32_t *y, size_t n, uint64_t lambda, const Line *line)
@@ -411,7 +427,7 @@ static void reader_refusals(void)
     } faults[] = {{10, 0}, {1, 0}, {2, 0}, {11, 4}, {12, 8}, {12, 12}, {12, 24}, {12, 28}, {4, 0}, {3, 3}, {0, 0}, {5, 0}};
     enum { FAULTS = sizeof faults / sizeof faults[0] };
     static Line line;
-    for (int set = 0; set < 1 << FAULTS; set++)
+    for (int set = 0; set < 1 << FAULTS; set += guard ? 1 : 37)
         for (int l = set & 1 << 10 ? 2 : 0; l < (set & 1 << 10 ? LINES : 2); l++) {
             if (lines[l].lengths != lines[l].totals)
                 continue;
@@ -419,7 +435,7 @@ static void reader_refusals(void)
             memcpy(line.length, lines[l].length, sizeof lines[l].length);
             memcpy(line.total, lines[l].total, sizeof lines[l].total);
             series[2] = set & 1 << 9 ? -LIMIT - 1 : 9;
-            memset(sheet, 0, 200);
+            memset(sheet, 0, 100);
             size_t n = 4, size = paper_sheet(sheet, series, n, set & 1 << 8 ? SMOOTHEST + 1 : 1, &line), handed_over = size;
             series[2] = 9;
             if (set & 1 << 7)
@@ -526,21 +542,27 @@ static void random_lists(void)
     int32_t y[6];
     size_t n = next() % 7, m = next() % 7, mt = next() % 8 ? m : next() % 7, left = n;
     for (size_t i = 0; i < m; i++) {
-        length[i] = (uint32_t)(i + 1 == m && next() % 8 ? left : next() % 4 ? 1 : next() % 4);
+        length[i] = (uint32_t)(next() % 4 ? 1 : next() % 4);
+        if (i + 1 == m && next() % 8)
+            length[i] = (uint32_t)left;
         left = left > length[i] ? left - length[i] : 0;
     }
     for (size_t i = 0; i < mt; i++) {
-        i64 most = (i64)(i < m ? length[i] : 1) * LIMIT;
+        i64 most = (i64)(i < m ? length[i] : 1) * LIMIT, x = (i64)next();
         switch (next() % 8) {
-        case 0: total[i] = (next() % 2 ? most : -most) + (next() % 40 == 0); break;
-        case 1: total[i] = (i64)(next() % (2 * (uint64_t)most + 1)) - most; break;
-        default: total[i] = (i64)(next() % 9) - 4;
+        case 0: total[i] = (x % 2 ? most : -most) + (x % 41 == 0); break;
+        case 1: total[i] = x % (2 * most + 1) - most; break;
+        default: total[i] = x % 9 - 4;
         }
     }
     for (size_t i = 0; i < n; i++)
-        y[i] = random_sample(&state, (int)(next() % 4));
-    compare_write(y, n, next() % 4, length, m, total, mt, 32 + 4 * n + 12 * (next() % 7));
-    compare_segments(n, length, m, total, mt, (size_t[]){next() % 9, m + next() % 3, m + next() % 3});
+        y[i] = random_sample(&state, (int)(i % 4));
+    uint64_t lambda = next() % 4;
+    compare_write(y, n, lambda, length, m, total, mt, 32 + 4 * n + 12 * (next() % 7));
+    size_t room[3];
+    for (int i = 0; i < 3; i++)
+        room[i] = next() % 4 ? m + next() % 3 : next() % 7;
+    compare_segments(n, length, m, total, mt, room);
     for (size_t k = 0; k <= n + 1; k++)
         compare_mark(n, length, m, total, mt, k, next() % 8 ? 2 + next() % 3 : next() % 2);
 }
@@ -549,12 +571,24 @@ static void random_sheets(void)
 {
     static int32_t y[MOST];
     static Line line;
-    size_t size = random_sheet(&state, sheet), n = size < 32 ? 0 : get(sheet, 4) % 64;
-    compare_read(sheet, size, (size_t[]){n + next() % 3, n + next() % 3, n + next() % 3, 3 + next() % 3});
-    compare_read(sheet, size, (size_t[]){next() % 44, next() % 44, next() % 44, next() % 5});
+    size_t most = next() % 4 ? 8 : 40, n = 1 + next() % most, room[4];
+    uint64_t lambda = next() % 4 ? next() % 30 : next() % (SMOOTHEST + 1);
+    int kind = next() % 4, with = next() % 2;
+    size_t size = random_sheet(&state, n, kind, lambda, with, sheet);
+    if (next() % 2)
+        size = damage_sheet(&state, sheet, size);
+    for (int i = 0; i < 4; i++)
+        room[i] = (i < 3 ? n : 3) + next() % 3;
+    compare_read(sheet, size, room);
+    for (int i = 0; i < 4; i++)
+        room[i] = next() % (i < 3 ? n + 2 : 5);
+    compare_read(sheet, size, room);
     if (paper_read(sheet, size, y, &line) == 0) {
-        must(compare_write(y, n, get(sheet + 16, 8), line.length, line.n, line.total, line.n, size + next() % 3), (i64)size);
-        if (memcmp(lent[0].got + GUARD, sheet, size))
+        static uint8_t back[SHEET];
+        lambda = get(sheet + 16, 8);
+        must(compare_write(y, n, lambda, line.length, line.n, line.total, line.n, size + next() % 3), (i64)size);
+        must(sheet_write(y, n, lambda, line.length, line.n, line.total, line.n, back, size), (i64)size);
+        if (memcmp(back, sheet, size))
             fail("read and written, the sheet differs");
         if (line.n > 0)
             chart(n, &line, 1);
@@ -594,7 +628,7 @@ static void small_calls(void)
     answers[2] = series_check(stack_y, MOST, 50, stack_line.length, stack_line.n, stack_line.total, stack_line.n);
     answers[3] = chart_segments(MOST, stack_line.length, stack_line.n, stack_line.total, stack_line.n, stack_lengths, MOST, stack_lasts, MOST, stack_levels, MOST);
     answers[4] = chart_mark(MOST, stack_line.length, stack_line.n, stack_line.total, stack_line.n, MOST, stack_levels, 2);
-    answers[5] = sheet_write(stack_y, MOST, 50, stack_line.length, stack_line.n, stack_line.total, stack_line.n, sheet, SIZE);
+    answers[5] = sheet_write(stack_y, MOST, 50, stack_line.length, stack_line.n, stack_line.total, stack_line.n, sheet, SHEET);
 }
 
 static void large_calls(void)
@@ -603,7 +637,7 @@ static void large_calls(void)
     answers[6] = sheet_read(sheet, (size_t)answers[5], stack_samples, MOST, stack_lengths, MOST, stack_totals, MOST, fields, 3);
     put(sheet + 4, 4, 0);
     put(sheet + 24, 4, 32 + 4 * MOST);
-    answers[7] = sheet_complete(sheet, 32 + 4 * MOST, other, SIZE);
+    answers[7] = sheet_complete(sheet, 32 + 4 * MOST, other, SHEET);
 }
 
 static void stacks(void)
@@ -621,6 +655,8 @@ static void stacks(void)
 int main(int argc, char **argv)
 {
     unsigned long count = argc > 1 ? strtoul(argv[1], NULL, 10) : 40000;
+    if (argc > 2)
+        guard = strtoul(argv[2], NULL, 10);
     known();
     close_levels();
     writer_refusals();
@@ -633,7 +669,8 @@ int main(int argc, char **argv)
     }
     seed = state = 12345;
     long_series();
-    stacks();
+    if (guard)
+        stacks();
     printf("reads %lu writes %lu charts %lu marks %lu completed %lu refused", reads, writes, segments, marks, completed);
     for (int i = 1; i < 14; i++)
         printf(" %d:%lu", i, numbers[i]);

@@ -4,6 +4,11 @@
 
 typedef __int128 wide;
 
+int same_line(const Line *a, const Line *b)
+{
+    return a->n == b->n && memcmp(a->length, b->length, a->n * sizeof a->length[0]) == 0 && memcmp(a->total, b->total, a->n * sizeof a->total[0]) == 0;
+}
+
 i64 refusal(i64 number, i64 place)
 {
     return -(256 * place + number);
@@ -134,7 +139,8 @@ int paper_line_short(const int32_t *y, size_t n, uint64_t lambda, Line *out)
 }
 
 /* ---- the line of a long series: the taut string through the tube of half width lambda around the running sums, 0 at both ends. The least
- * concave majorant of the tube's floor and the greatest convex minorant of its roof, both from the last knot, are kept as hulls */
+ * concave majorant of the tube's floor and the greatest convex minorant of its roof, both from the last knot, are kept as hulls. Two points of
+ * the tube differ by at most 2^16 minutes and 2^40 + 2 * 2^40 tenths, so no product here reaches 2^58 and 64 bits hold their differences */
 typedef struct {
     size_t first, last;
     i64 x[MOST + 2], z[MOST + 2];
@@ -143,8 +149,8 @@ typedef struct {
 /* the hull bends the wrong way at its last point, seen from (x, z) */
 static int bends(const Hull *h, i64 x, i64 z, int sign)
 {
-    wide before = (wide)(h->z[h->last] - h->z[h->last - 1]) * (x - h->x[h->last]);
-    wide after = (wide)(z - h->z[h->last]) * (h->x[h->last] - h->x[h->last - 1]);
+    i64 before = (h->z[h->last] - h->z[h->last - 1]) * (x - h->x[h->last]);
+    i64 after = (z - h->z[h->last]) * (h->x[h->last] - h->x[h->last - 1]);
     return sign * (before - after) <= 0;
 }
 
@@ -171,8 +177,8 @@ static void follow(Hull *one, Hull *other, i64 x, i64 z, int sign, Line *out)
         return;
     while (other->last > other->first + 1) {
         size_t f = other->first;
-        wide direct = (wide)(z - other->z[f]) * (other->x[f + 1] - other->x[f]);
-        wide edge = (wide)(other->z[f + 1] - other->z[f]) * (x - other->x[f]);
+        i64 direct = (z - other->z[f]) * (other->x[f + 1] - other->x[f]);
+        i64 edge = (other->z[f + 1] - other->z[f]) * (x - other->x[f]);
         if (sign * (direct - edge) <= 0)
             return;
         emit(out, other->x[f + 1] - other->x[f], other->z[f + 1] - other->z[f]);
@@ -197,7 +203,7 @@ void paper_line_long(const int32_t *y, size_t n, uint64_t lambda, Line *out)
         follow(&floor, &roof, (i64)k, sum - w, 1, out);
         follow(&roof, &floor, (i64)k, sum + w, -1, out);
     }
-    Hull *h = floor.last - floor.first >= roof.last - roof.first ? &floor : &roof;
+    const Hull *h = floor.last - floor.first >= roof.last - roof.first ? &floor : &roof;
     for (size_t f = h->first; f < h->last; f++)
         emit(out, h->x[f + 1] - h->x[f], h->z[f + 1] - h->z[f]);
 }
@@ -336,67 +342,71 @@ uint64_t next_number(uint64_t *state)
 
 int32_t random_sample(uint64_t *state, int kind)
 {
+    uint64_t x = next_number(state);
     switch (kind) {
-    case 0: return (int32_t)(next_number(state) % 11);
-    case 1: return (int32_t)(next_number(state) % 2001) - 1000;
-    case 2: return next_number(state) % 2 ? LIMIT : -LIMIT;
-    default: return (int32_t)(next_number(state) % (2 * LIMIT + 1)) - LIMIT;
+    case 0: return (int32_t)(x % 11);
+    case 1: return (int32_t)(x % 2001) - 1000;
+    case 2: return x % 2 ? LIMIT : -LIMIT;
+    default: return (int32_t)(x % (2 * LIMIT + 1)) - LIMIT;
     }
 }
 
-#define next() next_number(state)
-
-static size_t damage(uint64_t *state, uint8_t *sheet, size_t size)
+size_t random_sheet(uint64_t *state, size_t n, int kind, uint64_t lambda, int with, uint8_t *sheet)
 {
-    size_t at;
-    switch (next() % 8) {
-    case 0: /* a bit */
-        sheet[next() % size] ^= (uint8_t)(1 << next() % 8);
-        break;
-    case 1: /* a field */
-        at = (size_t[]){0, 4, 8, 12, 24, 28}[next() % 6];
-        put(sheet + at, 4, next() % 3 ? get(sheet + at, 4) + 1 - 2 * (next() % 2) : next());
-        break;
-    case 2: /* the smoothing */
-        put(sheet + 16, 8, next() % 2 ? SMOOTHEST + next() % 2 : next());
-        break;
-    case 3: /* a byte of length */
-        size = next() % 2 ? size + 1 : size - 1;
-        if (next() % 2)
-            put(sheet + 24, 4, size);
-        break;
-    case 4: /* any length */
-        size = next() % (size + 1);
-        break;
-    case 5: /* a sample */
-        at = 32 + 4 * (next() % get(sheet, 4));
-        put(sheet + at, 4, next() % 2 ? (uint64_t)LIMIT + next() % 2 : next());
-        break;
-    default: /* a segment */
-        if (get(sheet + 4, 4) > 0) {
-            at = 32 + 4 * get(sheet, 4) + 12 * (next() % get(sheet + 4, 4));
-            if (next() % 2)
-                put(sheet + at, 4, next() % 2 ? get(sheet + at, 4) + 1 - 2 * (next() % 2) : next() % 3);
-            else
-                put(sheet + at + 4, 8, next() % 3 ? get(sheet + at + 4, 8) + 1 - 2 * (next() % 2) : next() << 11);
-        }
-    }
+    static int32_t samples[MOST];
+    static Line own;
+    for (size_t i = 0; i < n; i++)
+        samples[i] = random_sample(state, kind);
+    if (with)
+        paper_line_long(samples, n, lambda, &own);
+    size_t size = paper_sheet(sheet, samples, n, lambda, with ? &own : NULL);
+    sheet[size] = 0;
     return size;
 }
 
-size_t random_sheet(uint64_t *state, uint8_t *sheet)
+/* up or down by 1 */
+static void nudge(uint64_t *state, uint8_t *p, int width)
 {
-    static int32_t samples[64];
-    size_t n = 1 + next() % (next() % 4 ? 8 : 40);
-    int kind = (int)(next() % 4);
-    for (size_t i = 0; i < n; i++)
-        samples[i] = random_sample(state, kind);
-    uint64_t lambda = next() % 4 ? next() % 30 : next() % (SMOOTHEST + 1);
-    static Line own;
-    int with = next() % 2;
-    if (with)
-        paper_line_long(samples, n, lambda, &own);
-    memset(sheet, 0, 800);
-    size_t size = paper_sheet(sheet, samples, n, lambda, with ? &own : NULL);
-    return next() % 2 ? damage(state, sheet, size) : size;
+    put(p, width, get(p, width) + (next_number(state) % 2 ? 1 : -1));
+}
+
+static void damage_segment(uint64_t *state, uint8_t *sheet)
+{
+    size_t n = get(sheet, 4), m = get(sheet + 4, 4);
+    if (m == 0)
+        return;
+    size_t s = next_number(state) % m;
+    uint8_t *p = sheet + 32 + 4 * n + 12 * s;
+    switch (next_number(state) % 5) {
+    case 0: nudge(state, p, 4); break;
+    case 1: put(p, 4, next_number(state) % 3); break;
+    case 2: nudge(state, p + 4, 8); break;
+    case 3: put(p + 4, 8, next_number(state) << 11); break;
+    default: /* the same as the one before */
+        if (s > 0)
+            memcpy(p, p - 12, 12);
+    }
+}
+
+size_t damage_sheet(uint64_t *state, uint8_t *sheet, size_t size)
+{
+    static const size_t fields[] = {0, 4, 8, 12, 24, 28};
+    uint8_t *any = sheet + next_number(state) % size, *field = sheet + fields[next_number(state) % 6];
+    uint8_t *sample = sheet + 32 + 4 * (next_number(state) % get(sheet, 4));
+    uint64_t way = next_number(state) % 9, coin = next_number(state) % 2, x = next_number(state);
+    switch (way) {
+    case 0: *any ^= (uint8_t)(1 << x % 8); break;
+    case 1: nudge(state, field, 4); break;
+    case 2: put(field, 4, x); break;
+    case 3: put(sheet + 16, 8, coin ? SMOOTHEST + x % 2 : x); break;
+    case 4: put(sample, 4, coin ? (uint64_t)LIMIT + x % 2 : x); break;
+    case 5: size = x % (size + 1); break;
+    case 6: /* a byte of length, told in field 24 or not */
+        size = coin ? size + 1 : size - 1;
+        if (x % 2)
+            put(sheet + 24, 4, size);
+        break;
+    default: damage_segment(state, sheet);
+    }
+    return size;
 }

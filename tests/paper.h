@@ -1,4 +1,5 @@
-/* Paper 01 and Condat 2013 again, written from the papers alone and slowly: what the library is compared with. */
+/* Paper 01 and Condat 2013 again, written from the papers alone: what the library is compared with. The taut string and the sheets also serve
+ * the measurements of bench/. */
 #ifndef PAPER_H
 #define PAPER_H
 
@@ -16,6 +17,8 @@ typedef struct {
     i64 total[MOST];
 } Line;
 
+int same_line(const Line *a, const Line *b);
+
 /* minus (256 times the place, plus the number) */
 i64 refusal(i64 number, i64 place);
 
@@ -31,7 +34,7 @@ i64 paper_check(const int32_t *y, size_t n, uint64_t lambda, const uint32_t *len
 /* the line of a series of at most 6 minutes: the one pattern of rises, falls and flats that passes the check; 0 where there is not just one */
 int paper_line_short(const int32_t *y, size_t n, uint64_t lambda, Line *out);
 
-/* the line of any series, by a taut string */
+/* the line of any series, by a taut string, in linear time */
 void paper_line_long(const int32_t *y, size_t n, uint64_t lambda, Line *out);
 
 /* the paper's table of known lines */
@@ -47,13 +50,14 @@ typedef struct {
 extern const Known known_lines[KNOWN];
 
 /* ---- the sheet */
-enum { SIZE = 32 + 4 * MOST + 12 * MOST };
+/* no sheet is longer */
+enum { SHEET = 32 + 4 * MOST + 12 * MOST };
 
-/* a little-endian number of so many bytes */
+/* the number of `width` bytes, little-endian, at p */
 uint64_t get(const uint8_t *p, int width);
 void put(uint8_t *p, int width, uint64_t x);
 
-/* the sheet of a series with this line, or with none for NULL; its number of bytes */
+/* the sheet of a series, with a line or, where `line` is NULL, without; its length in bytes */
 size_t paper_sheet(uint8_t *out, const int32_t *y, size_t n, uint64_t lambda, const Line *line);
 
 /* what a sheet holds: 10, 1, 2, 11, 12, 4, 3, then 6 to 9 where a line is filed, or 0 */
@@ -76,7 +80,10 @@ uint64_t next_number(uint64_t *state);
 /* a sample of a kind: 0 small, 1 noise, 2 extreme, 3 any */
 int32_t random_sample(uint64_t *state, int kind);
 
-/* a sheet of up to 40 minutes, half of them with their line, half of them damaged; the bytes after it are 0. Its number of bytes, at most 800 */
-size_t random_sheet(uint64_t *state, uint8_t *sheet);
+/* the sheet of n samples of a kind, with or without its line, and a 0 after it; its length in bytes */
+size_t random_sheet(uint64_t *state, size_t n, int kind, uint64_t lambda, int with, uint8_t *sheet);
+
+/* a sheet changed in a bit, a field, a sample, a segment or its length; the length afterwards, at most one more */
+size_t damage_sheet(uint64_t *state, uint8_t *sheet, size_t size);
 
 #endif

@@ -1,7 +1,10 @@
 /* Completes sheets through the C entry and compares result, every output byte and untouched memory with an implementation written from paper 01
  * alone: sheets without a line, with their line, damaged in a bit, a field, a segment or their length, outputs exact, too short and too long.
  *
- *     sheets [COUNT]      COUNT random sheets (default 200000), then long ones
+ *     sheets [COUNT [GUARD]]      COUNT random sheets (default 200000), then long ones
+ *
+ * Each call gets areas of its own from malloc, with GUARD bytes (default 64) before and after that must stay as they are. With GUARD 0 the areas are
+ * exactly as long as the call is told: for a run under valgrind, which then sees every access outside of them.
  *
  * Seeds are fixed. A difference prints the seed and the sheet. */
 #include <inttypes.h>
@@ -12,11 +15,10 @@
 #include "../include/dawhikura.h"
 #include "paper.h"
 
-enum { GUARD = 64 };
-
-static int32_t y[MOST + 8];
+/* ---- completing, from the paper */
+static int32_t y[MOST];
 static Line line;
-static uint8_t expected[SIZE + GUARD];
+static uint8_t expected[SHEET];
 
 /* the result, and the bytes written in `expected` */
 static i64 paper_complete(const uint8_t *s, size_t size, size_t room)
@@ -33,19 +35,54 @@ static i64 paper_complete(const uint8_t *s, size_t size, size_t room)
     return (i64)paper_sheet(expected, y, n, lambda, &line);
 }
 
+/* ---- the areas of a call */
+enum { FILL = 0xa5 };
+
+static size_t guard = 64;
+
+static uint8_t *lend(size_t size)
+{
+    uint8_t *block = malloc(size + 2 * guard);
+    if (!block) {
+        printf("out of memory\n");
+        exit(2);
+    }
+    memset(block, FILL, size + 2 * guard);
+    return block + guard;
+}
+
+static void give_back(uint8_t *area)
+{
+    free(area - guard);
+}
+
+/* the bytes of an area from `used` on, and the guards on both sides, are as lent */
+static int kept(const uint8_t *area, size_t used, size_t size)
+{
+    for (const uint8_t *p = area - guard; p < area + size + guard; p++)
+        if ((p < area || p >= area + used) && *p != FILL)
+            return 0;
+    return 1;
+}
+
 /* ---- the comparison */
 static uint64_t seed, state;
-static unsigned long calls, completed, numbers[32];
-static uint8_t out[SIZE + 3 * GUARD], copy[SIZE + GUARD];
+static unsigned long sheets, filed, damaged, calls, completed, numbers[256];
+
+static void start(uint64_t with)
+{
+    seed = with;
+    state = seed * 0x9e3779b97f4a7c15u;
+}
 
 static uint64_t next(void)
 {
     return next_number(&state);
 }
 
-static void fail(const char *what, const uint8_t *s, size_t size)
+static void fail(const char *what, const uint8_t *s, size_t size, size_t room)
 {
-    printf("%s: seed %" PRIu64 ", sheet of %zu bytes", what, seed, size);
+    printf("%s: seed %" PRIu64 ", output of %zu bytes, sheet of %zu bytes", what, seed, room, size);
     for (size_t i = 0; i < size && i < 400; i++)
         printf("%s%02x", i % 4 ? "" : " ", s[i]);
     printf("\n");
@@ -54,64 +91,87 @@ static void fail(const char *what, const uint8_t *s, size_t size)
 
 static void compare(const uint8_t *s, size_t size, size_t room)
 {
-    memset(out, 0xa5, room + 2 * GUARD);
-    memcpy(copy, s, size);
+    uint8_t *in = lend(size), *out = lend(room);
+    memcpy(in, s, size);
     i64 want = paper_complete(s, size, room);
-    i64 got = sheet_complete(s, size, out + GUARD, room);
-    calls++;
-    if (want != got) {
-        printf("expected %" PRId64 ", got %" PRId64 "; ", want, got);
-        fail("another result", s, size);
-    }
+    i64 got = sheet_complete(in, size, out, room);
     size_t written = got > 0 ? (size_t)got : 0;
+    calls++;
     if (got > 0)
         completed++;
     else
-        numbers[-got % 256 % 32]++;
-    if (memcmp(out + GUARD, expected, written))
-        fail("other bytes", s, size);
-    for (size_t i = 0; i < GUARD; i++)
-        if (out[i] != 0xa5)
-            fail("a byte before the output was touched", s, size);
-    for (size_t i = GUARD + written; i < room + 2 * GUARD; i++)
-        if (out[i] != 0xa5)
-            fail("a byte past the result was touched", s, size);
-    if (memcmp(copy, s, size))
-        fail("the sheet was touched", s, size);
+        numbers[-got % 256]++;
+    if (want != got) {
+        printf("expected %" PRId64 ", got %" PRId64 "; ", want, got);
+        fail("another result", s, size, room);
+    }
+    if (memcmp(out, expected, written))
+        fail("other bytes", s, size, room);
+    if (!kept(out, written, room))
+        fail("a byte around the output, or past the result, was touched", s, size, room);
+    if (memcmp(in, s, size) || !kept(in, size, size))
+        fail("the sheet, or a byte around it, was touched", s, size, room);
+    give_back(in);
+    give_back(out);
 }
 
-/* with the output longer than it need be, exact and one byte short */
+/* with the output longer than it need be, exact, one byte short and shorter */
 static void compare_rooms(const uint8_t *s, size_t size)
 {
-    compare(s, size, size + 12 * (size < 400 ? 40 : 0) + next() % 20);
-    i64 r = paper_complete(s, size, SIZE);
-    if (r > 0) {
-        compare(s, size, (size_t)r);
-        compare(s, size, (size_t)r - 1);
-        compare(s, size, next() % (size_t)r);
+    i64 r = paper_complete(s, size, SHEET);
+    if (r <= 0) {
+        compare(s, size, size + next() % 500);
+        return;
     }
+    compare(s, size, (size_t)r + 1 + next() % 500);
+    compare(s, size, (size_t)r);
+    compare(s, size, (size_t)r - 1);
+    compare(s, size, next() % (size_t)r);
 }
 
-static uint8_t sheet[SIZE + GUARD];
+/* ---- random sheets */
+static uint8_t sheet[SHEET + 1]; /* a sheet, or one byte more */
 
-/* ---- long sheets */
+static size_t build(size_t n, int kind, uint64_t lambda, int with)
+{
+    sheets++;
+    filed += with;
+    return random_sheet(&state, n, kind, lambda, with, sheet);
+}
+
+static void short_sheet(void)
+{
+    size_t most = next() % 4 ? 8 : 40, n = 1 + next() % most;
+    uint64_t lambda = next() % 4 ? next() % 30 : next() % (SMOOTHEST + 1);
+    int kind = next() % 4, with = next() % 2;
+    size_t size = build(n, kind, lambda, with);
+    if (next() % 2) {
+        damaged++;
+        size = damage_sheet(&state, sheet, size);
+    }
+    compare_rooms(sheet, size);
+}
+
+/* ---- long sheets: as they are, then with a bit changed */
+static void long_sheet(size_t n, int kind, int with)
+{
+    uint64_t lambda = (uint64_t[]){0, 50, 100000, SMOOTHEST}[next() % 4];
+    size_t size = build(n, kind, lambda, with);
+    compare_rooms(sheet, size);
+    sheets++;
+    damaged++;
+    sheet[32 + next() % (size - 32)] ^= 1;
+    compare_rooms(sheet, size);
+}
+
 static void long_sheets(void)
 {
-    static int32_t samples[MOST];
-    static Line own;
     static const size_t sizes[] = {1440, 44640, MOST};
     for (int a = 0; a < 3; a++)
         for (int kind = 0; kind < 4; kind++)
             for (int with = 0; with < 2; with++) {
-                size_t n = sizes[a];
-                uint64_t lambda = (uint64_t[]){0, 50, 100000, SMOOTHEST}[next() % 4];
-                for (size_t i = 0; i < n; i++)
-                    samples[i] = random_sample(&state, kind);
-                paper_line_long(samples, n, lambda, &own);
-                size_t size = paper_sheet(sheet, samples, n, lambda, with ? &own : NULL);
-                compare_rooms(sheet, size);
-                sheet[32 + next() % (size - 32)] ^= 1;
-                compare_rooms(sheet, size);
+                start(seed + 1);
+                long_sheet(sizes[a], kind, with);
             }
     /* one minute more than there may be */
     memset(sheet, 0, sizeof sheet);
@@ -119,19 +179,20 @@ static void long_sheets(void)
     put(sheet + 8, 4, 32);
     put(sheet + 12, 4, 32 + 4 * (MOST + 1));
     put(sheet + 24, 4, 32 + 4 * (MOST + 1));
-    compare(sheet, 32 + 4 * (MOST + 1), SIZE);
+    compare(sheet, 32 + 4 * (MOST + 1), SHEET);
 }
 
 int main(int argc, char **argv)
 {
     unsigned long count = argc > 1 ? strtoul(argv[1], NULL, 10) : 200000;
-    for (seed = 1; seed <= count; seed++) {
-        state = seed * 0x9e3779b97f4a7c15u;
-        compare_rooms(sheet, random_sheet(&state, sheet));
+    if (argc > 2)
+        guard = strtoul(argv[2], NULL, 10);
+    for (unsigned long i = 1; i <= count; i++) {
+        start(i);
+        short_sheet();
     }
-    state = 12345;
     long_sheets();
-    printf("sheets %lu calls %lu completed %lu refused", count, calls, completed);
+    printf("sheets %lu (%lu with a line, %lu damaged) calls %lu completed %lu refused", sheets, filed, damaged, calls, completed);
     for (int i = 1; i < 13; i++)
         printf(" %d:%lu", i, numbers[i]);
     printf(": all agree\n");

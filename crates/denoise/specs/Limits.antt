@@ -20,6 +20,10 @@ first-from picks i (x ∷ xs) = found (picks x) i (first-from picks (suc i) xs)
 abbrev pub first : {A : Type 0} → (A → Bool) → List A → Option ℕ
 first picks xs = first-from picks 1 xs
 
+abbrev pub is-none : {A : Type 0} → Option A → Bool
+is-none none = true
+is-none (some x) = false
+
 -- a place of 0 is none
 abbrev pub place-of : ℕ → Option ℕ
 place-of zero = none

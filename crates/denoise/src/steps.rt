@@ -6,7 +6,7 @@ ghost use Prim.Native.Nat.{_≤_, _<_};
 ghost use lib.ListN.{length, getD};
 ghost use lib.IntN.{pos};
 ghost use Rattle.integers.specs.Bounds.{Upto};
-ghost use Rattle.optimality.specs.Machine.{begin, pick};
+ghost use Rattle.optimality.specs.Machine.{begin};
 ghost use Rattle.optimality.specs.Tests.{test3, test4};
 ghost use Rattle.denoise.specs.Run.{Small, Mid, Within, belowOf, aheadOf, cutOf, fallOf, riseOf, stateOf, dataOf, moreOf, Good, Turns, Advanced};
 
@@ -92,13 +92,6 @@ fn ahead(samples: &[i32], smoothing: u64, s: Slope) -> Tube
             k: k + 1,
         },
     }
-}
-
-// The bound a where it is kept, b where it is touched anew.
-fn choose(keep: bool, a: Slope, b: Slope) -> Slope
-    ensures { λ r. ⌜ r ≡ pick keep a b ⌝ }
-{
-    if keep { a } else { b }
 }
 
 // Step 1, and the restart of the others: a segment begins at a mark.
@@ -232,12 +225,15 @@ pub fn more(samples: &[i32], smoothing: u64, r: Run) -> Run
     let at = t.at;
     let low = t.low;
     let high = t.high;
-    Run {
-        i: r.i,
-        at,
-        min: choose(below(low, min), min, low),
-        max: choose(below(max, high), max, high),
+    let mut q = r;
+    q.at = at;
+    if !below(low, min) {
+        q.min = low;
     }
+    if !below(max, high) {
+        q.max = high;
+    }
+    q
 }
 
 // Steps 8 to 10. Step 2 is step 10 at a segment of one minute.

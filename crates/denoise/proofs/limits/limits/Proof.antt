@@ -1,46 +1,58 @@
 -- `denoise::limits::limits` meets its contract.
 use borrow.Author.Needs.{needs}
 use borrow.Author.Tests.{eq-eqb, ne-eqb, lt-ltb, le-ltb}
-use mathlib.Core.Path.{_≡_, sym, _∙_}
-use mathlib.Core.Bool.{false}
+use mathlib.Core.Path.{_≡_, refl, sym, _∙_}
+use mathlib.Core.Bool.{true, false, true≢false}
+use mathlib.Core.Option.{Option, none, some}
+use Prim.Native.Nat.{ℕ, zero, suc}
 use lib.Dec.{eqb, ltb}
 use lib.ListN.{length}
-use Rattle.denoise.proofs.Admitted.{place-some, place-none}
+use Rattle.denoise.specs.Limits.{first, bad-sample, is-none, place-of}
 use Rattle.denoise.proofs.limits.limits.Statement.{statement}
 use Rattle.denoise.proofs.limits.limits.Tie as tie
 
-some : (c : tie.Else1) → eqb (length (c .before .args .samples .now)) 0 ≡ false
-some c = ne-eqb _ _ (c .if1 .left)
+none-is : (o : Option ℕ) → is-none o ≡ true → o ≡ none
+none-is none e = refl
+none-is (some k) e = absurd (true≢false (sym e))
+
+some-is : (o : Option ℕ) (k : ℕ) → place-of k ≡ o → is-none o ≡ false → o ≡ some k
+some-is o zero e h = absurd (true≢false (rw (sym e) at h))
+some-is o (suc k) e h = sym e
+
+any : (c : tie.Else1) → eqb (length (c .before .args .samples .now)) 0 ≡ false
+any c = ne-eqb _ _ (c .if1 .left)
 
 few : (c : tie.Else2) → ltb 65536 (length (c .before .before .args .samples .now)) ≡ false
 few c = le-ltb _ _ (c .if2 .left)
 
-light : (c : tie.Else3) → ltb 1099511627776 (c .before .before .before .before .args .smoothing) ≡ false
+light : (c : tie.Else3) → ltb 1099511627776 (c .before .before .before .args .smoothing) ≡ false
 light c = le-ltb _ _ (c .if3 .left)
 
 returns : tie.Need-returns
 returns c = rw (eq-eqb _ _ (c .if1 .taken))
 
 returns-2 : tie.Need-returns-2
-returns-2 c = rw (some (c .before), lt-ltb _ _ (c .if2 .taken))
+returns-2 c = rw (any (c .before), lt-ltb _ _ (c .if2 .taken))
+
+returns-3 : tie.Need-returns-3
+returns-3 c = rw (any (c .before .before), few (c .before), lt-ltb _ _ (c .if3 .taken))
+
+tame-requires : tie.Need-tame-requires
+tame-requires c κs = search needs
+
+returns-4 : tie.Need-returns-4
+returns-4 c =
+    let e = c .before .before in
+    rw (any (e .before .before), few (e .before), light e, none-is (first bad-sample (e .before .before .before .args .samples .now)) (sym (c .before .tame .ensures) ∙ c .if4 .taken))
 
 bad-from-requires : tie.Need-bad-from-requires
 bad-from-requires c κs = search needs
 
-returns-3 : tie.Need-returns-3
-returns-3 c = let w = c .before .before in rw (some (w .before), few w, lt-ltb _ _ (c .if3 .taken))
-
-returns-4 : tie.Need-returns-4
-returns-4 c =
-    let e = c .before in
-    let w = e .before .before in
-    rw (some (w .before), few w, light e, sym (e .before .bad-from .ensures) ∙ place-some _ (c .if4 .taken))
-
 returns-5 : tie.Need-returns-5
 returns-5 c =
-    let e = c .before in
-    let w = e .before .before in
-    rw (some (w .before), few w, light e, sym (e .before .bad-from .ensures) ∙ place-none _ (c .if4 .left))
+    let t = c .before .before in
+    let e = t .before in
+    rw (any (e .before .before), few (e .before), light e, some-is (first bad-sample (e .before .before .before .args .samples .now)) (c .bad-from .result) (c .bad-from .ensures) (sym (t .tame .ensures) ∙ c .before .if4 .left))
 
 pub limits-spec : {M : Type 1} → statement M
-limits-spec = tie.close (tie.spec returns returns-2 bad-from-requires returns-3 returns-4 returns-5)
+limits-spec = tie.close (tie.spec returns returns-2 returns-3 tame-requires returns-4 bad-from-requires returns-5)
