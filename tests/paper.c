@@ -35,11 +35,12 @@ static int order(uint32_t la, i64 ta, uint32_t lb, i64 tb)
     return (d > 0) - (d < 0);
 }
 
-i64 paper_check(const int32_t *y, size_t n, uint64_t lambda, const uint32_t *length, size_t lengths, const i64 *total, size_t totals)
+i64 paper_shape(size_t n, const uint32_t *length, size_t lengths, const i64 *total, size_t totals)
 {
-    i64 r = paper_limits(y, n, lambda);
-    if (r)
-        return r;
+    if (n == 0)
+        return refusal(1, 0);
+    if (n > MOST)
+        return refusal(2, 0);
     if (lengths == 0 || lengths != totals)
         return refusal(6, 0);
     wide sum = 0;
@@ -56,6 +57,16 @@ i64 paper_check(const int32_t *y, size_t n, uint64_t lambda, const uint32_t *len
     for (size_t s = 1; s < lengths; s++)
         if (order(length[s - 1], total[s - 1], length[s], total[s]) == 0)
             return refusal(8, (i64)s + 1);
+    return 0;
+}
+
+i64 paper_check(const int32_t *y, size_t n, uint64_t lambda, const uint32_t *length, size_t lengths, const i64 *total, size_t totals)
+{
+    i64 r = paper_limits(y, n, lambda);
+    if (!r)
+        r = paper_shape(n, length, lengths, total, totals);
+    if (r)
+        return r;
     /* u[k] as a fraction over the length of the segment that holds minute k; before a segment it is the whole u */
     wide u_top = 0, u_under = 1;
     size_t k = 0;
@@ -197,6 +208,22 @@ void paper_line_long(const int32_t *y, size_t n, uint64_t lambda, Line *out)
         emit(out, h->x[f + 1] - h->x[f], h->z[f + 1] - h->z[f]);
 }
 
+const Known known_lines[KNOWN] = {
+    {1, {7}, 0, 1, {1}, {7}},
+    {1, {7}, (uint64_t)1 << 40, 1, {1}, {7}},
+    {2, {0, 10}, 0, 2, {1, 1}, {0, 10}},
+    {2, {0, 10}, 4, 2, {1, 1}, {4, 6}},
+    {2, {0, 10}, 5, 1, {2}, {10}},
+    {2, {10, 0}, 1, 2, {1, 1}, {9, 1}},
+    {3, {3, 3, 3}, 0, 1, {3}, {9}},
+    {3, {0, 0, 9}, 1, 2, {2, 1}, {1, 8}},
+    {3, {0, 6, 0}, 1, 3, {1, 1, 1}, {1, 4, 1}},
+    {3, {0, 6, 0}, 2, 1, {3}, {6}},
+    {3, {0, 4, 8}, 1, 3, {1, 1, 1}, {1, 4, 7}},
+    {2, {-1, -2}, 1, 1, {2}, {-3}},
+    {2, {-LIMIT, LIMIT}, LIMIT, 1, {2}, {0}},
+};
+
 /* ---- the sheet, from the paper's table */
 uint64_t get(const uint8_t *p, int width)
 {
@@ -231,10 +258,75 @@ size_t paper_sheet(uint8_t *out, const int32_t *y, size_t n, uint64_t lambda, co
     return size;
 }
 
-uint64_t next_number(uint64_t *state)
+i64 paper_read(const uint8_t *s, size_t size, int32_t *y, Line *line)
 {
-    *state ^= *state << 13;
-    *state ^= *state >> 7;
-    *state ^= *state << 17;
-    return *state * 0x2545f4914f6cdd1du >> 11;
+    if (size < 32)
+        return refusal(10, 0);
+    uint64_t n = get(s, 4), m = get(s + 4, 4), lambda = get(s + 16, 8);
+    if (n == 0)
+        return refusal(1, 0);
+    if (n > MOST)
+        return refusal(2, 0);
+    if (m > n)
+        return refusal(11, 4);
+    if (get(s + 8, 4) != 32)
+        return refusal(12, 8);
+    if (get(s + 12, 4) != 32 + 4 * n)
+        return refusal(12, 12);
+    if (get(s + 24, 4) != 32 + 4 * n + 12 * m || get(s + 24, 4) != size)
+        return refusal(12, 24);
+    if (get(s + 28, 4) != 0)
+        return refusal(12, 28);
+    for (size_t i = 0; i < n; i++)
+        y[i] = (int32_t)(uint32_t)get(s + 32 + 4 * i, 4);
+    line->n = m;
+    for (size_t i = 0; i < m; i++) {
+        line->length[i] = (uint32_t)get(s + 32 + 4 * n + 12 * i, 4);
+        line->total[i] = (i64)get(s + 36 + 4 * n + 12 * i, 8);
+    }
+    return m == 0 ? paper_limits(y, n, lambda) : paper_check(y, n, lambda, line->length, m, line->total, m);
+}
+
+i64 paper_judge(const int32_t *y, size_t n, uint64_t lambda, const uint32_t *length, size_t lengths, const i64 *total, size_t totals)
+{
+    return lengths == 0 && totals == 0 ? paper_limits(y, n, lambda) : paper_check(y, n, lambda, length, lengths, total, totals);
+}
+
+/* ---- the chart */
+double paper_plot(uint32_t length, i64 total)
+{
+    /* total times 2^e over length, e such that the quotient has 53 bits; length is at most 2^16 and total at most 2^40 */
+    wide top = total < 0 ? -(wide)total : total;
+    int e = 0;
+    if (total == 0)
+        return 0;
+    while (top / length < (wide)1 << 52) {
+        top *= 2;
+        e++;
+    }
+    wide quotient = top / length, twice_rest = 2 * (top % length);
+    if (twice_rest > length || (twice_rest == length && quotient % 2 == 1))
+        quotient++;
+    double level = (double)(i64)quotient;
+    while (e-- > 0)
+        level /= 2;
+    return total < 0 ? -level : level;
+}
+
+i64 paper_mark(size_t n, const uint32_t *length, size_t lengths, const i64 *total, size_t totals, size_t minute, double level[2])
+{
+    i64 r = paper_shape(n, length, lengths, total, totals);
+    if (r)
+        return r;
+    if (minute < 1 || minute > n)
+        return refusal(13, 0);
+    /* the segments that hold this minute and the next one */
+    size_t a = 0, last = length[0];
+    while (last < minute)
+        last += length[++a];
+    size_t b = minute == last && minute < n ? a + 1 : a;
+    level[0] = paper_plot(length[a], total[a]);
+    level[1] = paper_plot(length[b], total[b]);
+    int way = order(length[a], total[a], length[b], total[b]);
+    return way == 0 ? 0 : way < 0 ? 1 : 2;
 }

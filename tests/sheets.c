@@ -14,6 +14,7 @@
 
 #include "../include/dawhikura.h"
 #include "paper.h"
+#include "random.h"
 
 /* ---- completing, from the paper */
 static int32_t y[MOST];
@@ -23,38 +24,12 @@ static uint8_t expected[SHEET];
 /* the result, and the bytes written in `expected` */
 static i64 paper_complete(const uint8_t *s, size_t size, size_t room)
 {
-    if (size < 32)
-        return refusal(10, 0);
-    uint64_t n = get(s, 4), m = get(s + 4, 4), lambda = get(s + 16, 8);
-    if (n == 0)
-        return refusal(1, 0);
-    if (n > MOST)
-        return refusal(2, 0);
-    if (m > n)
-        return refusal(11, 4);
-    if (get(s + 8, 4) != 32)
-        return refusal(12, 8);
-    if (get(s + 12, 4) != 32 + 4 * n)
-        return refusal(12, 12);
-    if (get(s + 24, 4) != 32 + 4 * n + 12 * m || get(s + 24, 4) != size)
-        return refusal(12, 24);
-    if (get(s + 28, 4) != 0)
-        return refusal(12, 28);
-    for (size_t i = 0; i < n; i++)
-        y[i] = (int32_t)(uint32_t)get(s + 32 + 4 * i, 4);
-    i64 r = paper_limits(y, n, lambda);
+    i64 r = paper_read(s, size, y, &line);
     if (r)
         return r;
-    if (m > 0) {
-        line.n = m;
-        for (size_t i = 0; i < m; i++) {
-            line.length[i] = (uint32_t)get(s + 32 + 4 * n + 12 * i, 4);
-            line.total[i] = (i64)get(s + 36 + 4 * n + 12 * i, 8);
-        }
-        r = paper_check(y, n, lambda, line.length, m, line.total, m);
-        if (r)
-            return r;
-    } else
+    size_t n = get(s, 4);
+    uint64_t lambda = get(s + 16, 8);
+    if (line.n == 0)
         paper_line_long(y, n, lambda, &line);
     if (32 + 4 * n + 12 * line.n > room)
         return refusal(5, 0);
@@ -93,7 +68,7 @@ static int kept(const uint8_t *area, size_t used, size_t size)
 
 /* ---- the comparison */
 static uint64_t seed, state;
-static unsigned long sheets, filed, damaged, calls, completed, numbers[256];
+static unsigned long sheets, calls, completed, numbers[256];
 
 static void start(uint64_t with)
 {
@@ -158,88 +133,10 @@ static void compare_rooms(const uint8_t *s, size_t size)
 /* ---- random sheets */
 static uint8_t sheet[SHEET + 1]; /* a sheet, or one byte more */
 
-static int32_t draw(int kind)
+static void random_one(void)
 {
-    switch (kind) {
-    case 0: return (int32_t)(next() % 11);
-    case 1: return (int32_t)(next() % 2001) - 1000;
-    case 2: return next() % 2 ? LIMIT : -LIMIT;
-    default: return (int32_t)(next() % (2 * LIMIT + 1)) - LIMIT;
-    }
-}
-
-/* up or down by 1 */
-static void nudge(uint8_t *p, int width)
-{
-    put(p, width, get(p, width) + (next() % 2 ? 1 : -1));
-}
-
-static void damage_segment(void)
-{
-    size_t n = get(sheet, 4), m = get(sheet + 4, 4);
-    if (m == 0)
-        return;
-    size_t s = next() % m;
-    uint8_t *p = sheet + 32 + 4 * n + 12 * s;
-    switch (next() % 5) {
-    case 0: nudge(p, 4); break;
-    case 1: put(p, 4, next() % 3); break;
-    case 2: nudge(p + 4, 8); break;
-    case 3: put(p + 4, 8, next() << 11); break;
-    default: /* the same as the one before */
-        if (s > 0)
-            memcpy(p, p - 12, 12);
-    }
-}
-
-/* the length afterwards */
-static size_t damage(size_t size)
-{
-    static const size_t fields[] = {0, 4, 8, 12, 24, 28};
-    uint8_t *any = sheet + next() % size, *field = sheet + fields[next() % 6], *sample = sheet + 32 + 4 * (next() % get(sheet, 4));
-    switch (next() % 9) {
-    case 0: *any ^= (uint8_t)(1 << next() % 8); break;
-    case 1: nudge(field, 4); break;
-    case 2: put(field, 4, next()); break;
-    case 3: put(sheet + 16, 8, next() % 2 ? SMOOTHEST + next() % 2 : next()); break;
-    case 4: put(sample, 4, next() % 2 ? (uint64_t)LIMIT + next() % 2 : next()); break;
-    case 5: size = next() % (size + 1); break;
-    case 6: /* a byte of length, told in field 24 or not */
-        size = next() % 2 ? size + 1 : size - 1;
-        if (next() % 2)
-            put(sheet + 24, 4, size);
-        break;
-    default: damage_segment();
-    }
-    return size;
-}
-
-/* the sheet of n samples of a kind, with or without its line */
-static size_t build(size_t n, int kind, uint64_t lambda, int with)
-{
-    static int32_t samples[MOST];
-    static Line own;
-    for (size_t i = 0; i < n; i++)
-        samples[i] = draw(kind);
-    if (with)
-        paper_line_long(samples, n, lambda, &own);
+    size_t size = small_sheet(&state, sheet);
     sheets++;
-    filed += with;
-    size_t size = paper_sheet(sheet, samples, n, lambda, with ? &own : NULL);
-    sheet[size] = 0;
-    return size;
-}
-
-static void random_sheet(void)
-{
-    size_t most = next() % 4 ? 8 : 40, n = 1 + next() % most;
-    uint64_t lambda = next() % 4 ? next() % 30 : next() % (SMOOTHEST + 1);
-    int kind = next() % 4, with = next() % 2;
-    size_t size = build(n, kind, lambda, with);
-    if (next() % 2) {
-        damaged++;
-        size = damage(size);
-    }
     compare_rooms(sheet, size);
 }
 
@@ -247,10 +144,9 @@ static void random_sheet(void)
 static void long_sheet(size_t n, int kind, int with)
 {
     uint64_t lambda = (uint64_t[]){0, 50, 100000, SMOOTHEST}[next() % 4];
-    size_t size = build(n, kind, lambda, with);
+    size_t size = random_sheet(&state, sheet, n, kind, lambda, with);
+    sheets += 2;
     compare_rooms(sheet, size);
-    sheets++;
-    damaged++;
     sheet[32 + next() % (size - 32)] ^= 1;
     compare_rooms(sheet, size);
 }
@@ -280,10 +176,10 @@ int main(int argc, char **argv)
         guard = strtoul(argv[2], NULL, 10);
     for (unsigned long i = 1; i <= count; i++) {
         start(i);
-        random_sheet();
+        random_one();
     }
     long_sheets();
-    printf("sheets %lu (%lu with a line, %lu damaged) calls %lu completed %lu refused", sheets, filed, damaged, calls, completed);
+    printf("sheets %lu calls %lu completed %lu refused", sheets, calls, completed);
     for (int i = 1; i < 13; i++)
         printf(" %d:%lu", i, numbers[i]);
     printf(": all agree\n");
