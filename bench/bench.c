@@ -10,6 +10,7 @@
 
 #include "../include/dawhikura.h"
 #include "../tests/paper.h"
+#include "../tests/random.h"
 #include "baselines.h"
 
 static int32_t y[MOST];
@@ -122,12 +123,6 @@ static void line_row(const char *name)
 
 /* ---- whole sheets */
 enum { COPY, DRAW, CHECK, COMPLETE, CONFIRM, READ, WRITE, TASKS };
-
-#ifndef WITH_READ /* until the library has them */
-#define TASKS READ
-#define sheet_read(...) 0
-#define sheet_write(...) 0
-#endif
 
 static uint8_t bare[SHEET], whole[SHEET], out[SHEET];
 static size_t bare_size, whole_size;

@@ -8,6 +8,7 @@
 
 #include "../include/dawhikura.h"
 #include "paper.h"
+#include "random.h"
 
 typedef __int128 wide;
 

@@ -18,6 +18,7 @@
 
 #include "../include/dawhikura.h"
 #include "paper.h"
+#include "random.h"
 
 static size_t guard = 64;
 static uint64_t seed, state;
@@ -571,12 +572,7 @@ static void random_sheets(void)
 {
     static int32_t y[MOST];
     static Line line;
-    size_t most = next() % 4 ? 8 : 40, n = 1 + next() % most, room[4];
-    uint64_t lambda = next() % 4 ? next() % 30 : next() % (SMOOTHEST + 1);
-    int kind = next() % 4, with = next() % 2;
-    size_t size = random_sheet(&state, n, kind, lambda, with, sheet);
-    if (next() % 2)
-        size = damage_sheet(&state, sheet, size);
+    size_t size = small_sheet(&state, sheet), n = size < 32 ? 0 : get(sheet, 4) % 64, room[4];
     for (int i = 0; i < 4; i++)
         room[i] = (i < 3 ? n : 3) + next() % 3;
     compare_read(sheet, size, room);
@@ -584,11 +580,10 @@ static void random_sheets(void)
         room[i] = next() % (i < 3 ? n + 2 : 5);
     compare_read(sheet, size, room);
     if (paper_read(sheet, size, y, &line) == 0) {
-        static uint8_t back[SHEET];
-        lambda = get(sheet + 16, 8);
+        uint64_t lambda = get(sheet + 16, 8);
         must(compare_write(y, n, lambda, line.length, line.n, line.total, line.n, size + next() % 3), (i64)size);
-        must(sheet_write(y, n, lambda, line.length, line.n, line.total, line.n, back, size), (i64)size);
-        if (memcmp(back, sheet, size))
+        must(sheet_write(y, n, lambda, line.length, line.n, line.total, line.n, other, size), (i64)size);
+        if (memcmp(other, sheet, size))
             fail("read and written, the sheet differs");
         if (line.n > 0)
             chart(n, &line, 1);

@@ -53,11 +53,11 @@ extern const Known known_lines[KNOWN];
 /* no sheet is longer */
 enum { SHEET = 32 + 4 * MOST + 12 * MOST };
 
-/* the number of `width` bytes, little-endian, at p */
+/* a little-endian number of so many bytes */
 uint64_t get(const uint8_t *p, int width);
 void put(uint8_t *p, int width, uint64_t x);
 
-/* the sheet of a series, with a line or, where `line` is NULL, without; its length in bytes */
+/* the sheet of a series with this line, or with none for NULL; its number of bytes */
 size_t paper_sheet(uint8_t *out, const int32_t *y, size_t n, uint64_t lambda, const Line *line);
 
 /* what a sheet holds: 10, 1, 2, 11, 12, 4, 3, then 6 to 9 where a line is filed, or 0 */
@@ -72,18 +72,5 @@ double paper_plot(uint32_t length, i64 total);
 
 /* the mark of a minute, 0 plain, 1 rise, 2 fall, with the two levels: 1, 2, 6, 7, 8, 13 */
 i64 paper_mark(size_t n, const uint32_t *length, size_t lengths, const i64 *total, size_t totals, size_t minute, double level[2]);
-
-/* ---- random input */
-/* a stream of numbers; the same for the same state */
-uint64_t next_number(uint64_t *state);
-
-/* a sample of a kind: 0 small, 1 noise, 2 extreme, 3 any */
-int32_t random_sample(uint64_t *state, int kind);
-
-/* the sheet of n samples of a kind, with or without its line, and a 0 after it; its length in bytes */
-size_t random_sheet(uint64_t *state, size_t n, int kind, uint64_t lambda, int with, uint8_t *sheet);
-
-/* a sheet changed in a bit, a field, a sample, a segment or its length; the length afterwards, at most one more */
-size_t damage_sheet(uint64_t *state, uint8_t *sheet, size_t size);
 
 #endif

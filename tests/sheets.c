@@ -14,6 +14,7 @@
 
 #include "../include/dawhikura.h"
 #include "paper.h"
+#include "random.h"
 
 /* ---- completing, from the paper */
 static int32_t y[MOST];
@@ -67,7 +68,7 @@ static int kept(const uint8_t *area, size_t used, size_t size)
 
 /* ---- the comparison */
 static uint64_t seed, state;
-static unsigned long sheets, filed, damaged, calls, completed, numbers[256];
+static unsigned long sheets, calls, completed, numbers[256];
 
 static void start(uint64_t with)
 {
@@ -132,23 +133,10 @@ static void compare_rooms(const uint8_t *s, size_t size)
 /* ---- random sheets */
 static uint8_t sheet[SHEET + 1]; /* a sheet, or one byte more */
 
-static size_t build(size_t n, int kind, uint64_t lambda, int with)
+static void random_one(void)
 {
+    size_t size = small_sheet(&state, sheet);
     sheets++;
-    filed += with;
-    return random_sheet(&state, n, kind, lambda, with, sheet);
-}
-
-static void short_sheet(void)
-{
-    size_t most = next() % 4 ? 8 : 40, n = 1 + next() % most;
-    uint64_t lambda = next() % 4 ? next() % 30 : next() % (SMOOTHEST + 1);
-    int kind = next() % 4, with = next() % 2;
-    size_t size = build(n, kind, lambda, with);
-    if (next() % 2) {
-        damaged++;
-        size = damage_sheet(&state, sheet, size);
-    }
     compare_rooms(sheet, size);
 }
 
@@ -156,10 +144,9 @@ static void short_sheet(void)
 static void long_sheet(size_t n, int kind, int with)
 {
     uint64_t lambda = (uint64_t[]){0, 50, 100000, SMOOTHEST}[next() % 4];
-    size_t size = build(n, kind, lambda, with);
+    size_t size = random_sheet(&state, sheet, n, kind, lambda, with);
+    sheets += 2;
     compare_rooms(sheet, size);
-    sheets++;
-    damaged++;
     sheet[32 + next() % (size - 32)] ^= 1;
     compare_rooms(sheet, size);
 }
@@ -189,10 +176,10 @@ int main(int argc, char **argv)
         guard = strtoul(argv[2], NULL, 10);
     for (unsigned long i = 1; i <= count; i++) {
         start(i);
-        short_sheet();
+        random_one();
     }
     long_sheets();
-    printf("sheets %lu (%lu with a line, %lu damaged) calls %lu completed %lu refused", sheets, filed, damaged, calls, completed);
+    printf("sheets %lu calls %lu completed %lu refused", sheets, calls, completed);
     for (int i = 1; i < 13; i++)
         printf(" %d:%lu", i, numbers[i]);
     printf(": all agree\n");

@@ -9,7 +9,7 @@ use lib.Dec.{ltb}
 use lib.ListN.{length, set}
 use lib.IntN.{ℤ}
 use Rattle.level.specs.Answer.{Answer, refused, given, refuse-if}
-use Rattle.denoise.specs.Limits.{overwrite, on-success}
+use Rattle.denoise.specs.Limits.{refill, on-success}
 use Rattle.denoise.proofs.Refusals.{never}
 use Rattle.sheet.specs.Answer.{fields}
 use Rattle.sheet.specs.Format.{minutes, segment-count}
@@ -20,14 +20,14 @@ use Rattle.console.specs.Reading.{readingOf}
 
 -- ---- the first entries of a list, set one by one
 module _ {A : Type 0} (a b : A) where
-  pub two-set : (l : List A) → 2 ≤ length l → set (set l 0 a) 1 b ≡ overwrite (a ∷ b ∷ []) l
-  unfolding overwrite
+  pub two-set : (l : List A) → 2 ≤ length l → set (set l 0 a) 1 b ≡ refill (a ∷ b ∷ []) l
+  unfolding refill
   two-set [] h = absurd (omega arith)
   two-set (x ∷ []) h = absurd (omega arith)
   two-set (x ∷ y ∷ l) h = refl
 
-  pub three-set : (c : A) (l : List A) → 3 ≤ length l → set (set (set l 0 a) 1 b) 2 c ≡ overwrite (a ∷ b ∷ c ∷ []) l
-  unfolding overwrite
+  pub three-set : (c : A) (l : List A) → 3 ≤ length l → set (set (set l 0 a) 1 b) 2 c ≡ refill (a ∷ b ∷ c ∷ []) l
+  unfolding refill
   three-set c [] h = absurd (omega arith)
   three-set c (x ∷ []) h = absurd (omega arith)
   three-set c (x ∷ y ∷ []) h = absurd (omega arith)

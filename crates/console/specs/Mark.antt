@@ -6,7 +6,7 @@ use lib.Dec.{ltb}
 use lib.ListN.{length}
 use lib.Ieee.{Float}
 use Rattle.level.specs.Answer.{Answer, refused, given, refuse-if}
-use Rattle.denoise.specs.Limits.{overwrite, on-success}
+use Rattle.denoise.specs.Limits.{refill, on-success}
 use Rattle.chart.specs.Chart.{Shown, plain, rise, fall}
 
 abbrev pub kind : Shown → ℕ
@@ -30,4 +30,4 @@ module _ (levels : List Float) where
   -- what the list then holds
   abbrev pub levelsAfter : Answer Shown → List Float
   levelsAfter (refused number place) = levels
-  levelsAfter (given m) = on-success (room levels (kind m)) (overwrite (before-after m) levels) levels
+  levelsAfter (given m) = on-success (room levels (kind m)) (refill (before-after m) levels) levels

@@ -7,7 +7,7 @@ use lib.Dec.{ltb}
 use lib.ListN.{length}
 use lib.IntN.{ℤ}
 use Rattle.level.specs.Answer.{Answer, given, refuse-if}
-use Rattle.denoise.specs.Limits.{overwrite, on-success}
+use Rattle.denoise.specs.Limits.{refill, on-success}
 use Rattle.sheet.specs.Answer.{fields}
 use Rattle.sheet.specs.Format.{minutes, segment-count, samples, lengths, totals}
 use Rattle.sheet.specs.Read.{accepted}
@@ -25,13 +25,13 @@ module _ (s : List ℕ) (ys : List ℤ) (ns : List ℕ) (ts : List ℤ) (fs : Li
 
   -- what the lists then hold
   abbrev pub samplesRead : List ℤ
-  samplesRead = on-success readingOf (overwrite (samples s) ys) ys
+  samplesRead = on-success readingOf (refill (samples s) ys) ys
 
   abbrev pub lengthsRead : List ℕ
-  lengthsRead = on-success readingOf (overwrite (lengths s) ns) ns
+  lengthsRead = on-success readingOf (refill (lengths s) ns) ns
 
   abbrev pub totalsRead : List ℤ
-  totalsRead = on-success readingOf (overwrite (totals s) ts) ts
+  totalsRead = on-success readingOf (refill (totals s) ts) ts
 
   abbrev pub fieldsRead : List ℕ
-  fieldsRead = on-success readingOf (overwrite (three (fields s)) fs) fs
+  fieldsRead = on-success readingOf (refill (three (fields s)) fs) fs

@@ -8,7 +8,7 @@ ghost use lib.ListN.{length};
 ghost use Rattle.denoise.specs.Line.{lineOf, lengthsOf, totalsOf};
 ghost use Rattle.denoise.specs.Dual.{balancesOf, balancesAfter};
 ghost use Rattle.denoise.specs.Check.{checkOf};
-ghost use Rattle.denoise.specs.Limits.{overwrite, on-success};
+ghost use Rattle.denoise.specs.Limits.{refill, on-success};
 ghost use Rattle.level.specs.Answer.{refused};
 ghost use Rattle.chart.specs.Chart.{markOf};
 ghost use Rattle.chart.specs.Whole.{segmentsOf, firstsOf, lastsOf, levelsOf};
@@ -120,7 +120,7 @@ pub extern "C" fn chart_mark(
 // The levels of a mark in the first two entries, and its kind; 5 where there are not two.
 fn show(kind: u32, from: f64, to: f64, levels: &mut [f64]) -> i64
     ensures { λ r. ⌜ r ≡ code (room (now (levels .entry)) kind) ⌝ }
-    ensures { λ r. ⌜ now (levels .exit) ≡ on-success (room (now (levels .entry)) kind) (overwrite (from ∷ to ∷ []) (now (levels .entry))) (now (levels .entry)) ⌝ }
+    ensures { λ r. ⌜ now (levels .exit) ≡ on-success (room (now (levels .entry)) kind) (refill (from ∷ to ∷ []) (now (levels .entry))) (now (levels .entry)) ⌝ }
 {
     if levels.len() < 2 {
         return refusal(5, 0);
@@ -170,7 +170,7 @@ fn no_room(sheet: &[u8]) -> i64
 fn tell(f: Fields, out: &mut [u64]) -> i64
     requires { ⌜ 3 ≤ length (now out) ⌝ }
     ensures { λ r. ⌜ r ≡ pos (f .segments) ⌝ }
-    ensures { λ r. ⌜ now (out .exit) ≡ overwrite (three f) (now (out .entry)) ⌝ }
+    ensures { λ r. ⌜ now (out .exit) ≡ refill (three f) (now (out .entry)) ⌝ }
 {
     out[0] = f.minutes as u64;
     out[1] = f.segments as u64;

@@ -7,7 +7,7 @@ use mir.Syntax.{w64}
 use mir.Val.{SFits}
 use mir.Facts.{toZ-ofZ}
 use Rattle.level.specs.Answer.{Answer, refused, given}
-use Rattle.denoise.specs.Limits.{overwrite, on-success}
+use Rattle.denoise.specs.Limits.{refill, on-success}
 use Rattle.sheet.specs.Answer.{headed, fields}
 use Rattle.sheet.specs.Format.{segment-count}
 use Rattle.sheet.specs.Read.{accepted, readOf}
@@ -67,7 +67,7 @@ returns-2 c =
         g .read .ensures .1 .0 ∙ as-read g _ _,
         (
           g .read .ensures .1 .1 .0 ∙ as-read g _ _,
-          (g .read .ensures .1 .1 .1 ∙ as-read g _ _, rw (t .1) (w .tell .ensures .1 ∙ ap (λ f. overwrite (three f) (a g .args .fields .now)) (t .0))),
+          (g .read .ensures .1 .1 .1 ∙ as-read g _ _, rw (t .1) (w .tell .ensures .1 ∙ ap (λ f. refill (three f) (a g .args .fields .now)) (t .0))),
         ),
       ),
     )
