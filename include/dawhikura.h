@@ -3,7 +3,8 @@
  * One duty is on the caller's side: each area is as long as the count beside it says, and an area that is written lies apart from the others.
  * Nothing else need be true of what is handed over. A call that returns a refusal leaves every area as it was; one that does not keeps the entries
  * and bytes past those that it fills. No call allocates or keeps anything for later; sheet_read and sheet_complete need 1 MiB and 16 KiB of stack for
- * the sheet's lists, the others under 16 KiB.
+ * the sheet's lists, the others under 16 KiB. Drawing a line takes some 8 ns a minute (README, "Speed"), but is quadratic on some series: a ramp of
+ * 65,536 minutes took up to six seconds. Checking, reading and writing are linear.
  *
  * A result below 0 is a refusal: minus (256 times the place, plus the number), so that for r < 0 the number is -r % 256 and the place -r / 256.
  *
