@@ -1,5 +1,6 @@
-/* Measures the line beside the same exact steps in C, Condat's floating-point code and an exact taut string, on the same samples, and first sees
- * that the exact ones agree. Prints nanoseconds a minute, the best of several rounds, and ours over each. */
+/* Measures the line beside the same exact steps in C from two compilers, an exact taut string and Condat's floating-point code, on the same
+ * samples; then whole sheets beside a copy of their bytes. Prints nanoseconds a minute, the best of several rounds, and ours over each. The
+ * lines of the exact methods, and the results on sheets, are first compared; a difference ends the run. */
 #define _POSIX_C_SOURCE 199309L
 #include <inttypes.h>
 #include <stdio.h>
@@ -8,12 +9,14 @@
 #include <time.h>
 
 #include "../include/dawhikura.h"
+#include "../tests/paper.h"
+#include "../tests/random.h"
 #include "baselines.h"
 
 static int32_t y[MOST];
-static double yd[MOST], xd[MOST];
-static uint32_t lengths[MOST], lengths2[MOST];
-static int64_t totals[MOST], totals2[MOST];
+static size_t n;
+static uint64_t lambda;
+static Line line; /* ours, of the samples and smoothing above */
 
 static double now(void)
 {
@@ -22,72 +25,230 @@ static double now(void)
     return (double)t.tv_sec * 1e9 + (double)t.tv_nsec;
 }
 
-enum { OURS, STEPS, STRING, CONDAT, METHODS };
+/* The best time of each of `count` tasks, in ns: they take turns for half a second, each at least once and at most 1,000 times. `judge` sees each
+ * result of the first turn. */
+static void measure(int count, int64_t (*task)(int), void (*judge)(int, int64_t), double *best)
+{
+    double end = now() + 5e8;
+    for (int round = 0; round == 0 || (round < 1000 && now() < end); round++)
+        for (int i = 0; i < count; i++) {
+            double t = now();
+            int64_t r = task(i);
+            t = now() - t;
+            if (round == 0)
+                judge(i, r);
+            if (round == 0 || t < best[i])
+                best[i] = t;
+        }
+}
 
-static size_t run(int method, size_t n, uint64_t lambda)
+static void differ(const char *what)
+{
+    printf("%s: another result, %zu minutes, smoothing %" PRIu64 "\n", what, n, lambda);
+    exit(1);
+}
+
+static void print_name(const char *name)
+{
+    printf("%-15s %7zu %8zu", name, n, line.n);
+}
+
+static void print_time(double ns)
+{
+    double each = ns / (double)n;
+    printf(" %6.*f", each < 1000 ? 2 : 0, each);
+}
+
+static void print_ratio(double over)
+{
+    printf(" %6.*f", over < 100 ? 2 : 0, over);
+}
+
+/* ---- lines */
+enum { OURS, CLANG, GCC, STRING, CONDAT, METHODS };
+
+static double yd[MOST], xd[MOST];
+static Line other;
+
+static int64_t draw(int method)
 {
     switch (method) {
-    case OURS: return (size_t)series_line(y, n, lambda, lengths, n, totals, n);
-    case STEPS: return exact_steps(y, n, (int64_t)lambda, lengths2, totals2);
-    case STRING: return taut_string(y, n, (int64_t)lambda, lengths2, totals2);
+    case OURS: return series_line(y, n, lambda, line.length, n, line.total, n);
+    case CLANG: return (int64_t)steps_clang(y, n, (int64_t)lambda, other.length, other.total);
+    case GCC: return (int64_t)steps_gcc(y, n, (int64_t)lambda, other.length, other.total);
+    case STRING: paper_line_long(y, n, lambda, &other); return (int64_t)other.n;
     default: condat_double(yd, xd, n, (double)lambda); return 0;
     }
 }
 
-static void measure(const char *name, size_t n, uint64_t lambda)
+/* the levels in floating point are ours but for rounding */
+static int near(void)
 {
-    double best[METHODS];
-    size_t m = run(OURS, n, lambda);
-    for (int method = STEPS; method <= STRING; method++)
-        if (run(method, n, lambda) != m || memcmp(lengths, lengths2, m * sizeof lengths[0]) || memcmp(totals, totals2, m * sizeof totals[0])) {
-            printf("%s: method %d gives another line\n", name, method);
-            exit(1);
+    size_t k = 0;
+    for (size_t s = 0; s < line.n; s++)
+        for (uint32_t i = 0; i < line.length[s]; i++, k++) {
+            double off = xd[k] - (double)line.total[s] / line.length[s];
+            if (off < -0.001 || off > 0.001)
+                return 0;
         }
-    for (int method = 0; method < METHODS; method++)
-        best[method] = 1e30;
-    double end = now() + 1.5e9;
-    for (int round = 0; round < 400 && (round < 3 || now() < end); round++)
-        for (int method = 0; method < METHODS; method++) {
-            double t = now();
-            run(method, n, lambda);
-            t = now() - t;
-            if (t < best[method])
-                best[method] = t;
-        }
-    printf("%-22s %6zu %7zu ", name, n, m);
-    for (int method = 0; method < METHODS; method++)
-        printf(" %8.2f", best[method] / (double)n);
-    printf("  ");
-    for (int method = STEPS; method < METHODS; method++)
-        printf(" %6.2f", best[OURS] / best[method]);
-    printf("\n");
+    return 1;
 }
 
-static uint64_t state = 0x9e3779b97f4a7c15u;
-
-static int32_t noise(void)
+static void judge_line(int method, int64_t m)
 {
-    state ^= state << 13;
-    state ^= state >> 7;
-    state ^= state << 17;
-    return (int32_t)(state % 401) - 200;
+    static const char *const methods[] = {"ours", "steps by clang", "steps by gcc", "taut string", "Condat"};
+    if (method == OURS)
+        line.n = (size_t)m;
+    else
+        other.n = (size_t)m;
+    if (method != OURS && !(method == CONDAT ? near() : same_line(&line, &other)))
+        differ(methods[method]);
+}
+
+static void line_row(const char *name)
+{
+    double best[METHODS];
+    for (size_t i = 0; i < n; i++)
+        yd[i] = y[i];
+    measure(METHODS, draw, judge_line, best);
+    print_name(name);
+    for (int i = 0; i < METHODS; i++)
+        print_time(best[i]);
+    printf(" ");
+    for (int i = CLANG; i < METHODS; i++)
+        print_ratio(best[OURS] / best[i]);
+    printf("\n");
+    fflush(stdout);
+}
+
+/* ---- whole sheets */
+enum { COPY, DRAW, CHECK, COMPLETE, CONFIRM, READ, WRITE, TASKS };
+
+static uint8_t bare[SHEET], whole[SHEET], out[SHEET];
+static size_t bare_size, whole_size;
+static int32_t samples[MOST];
+static uint64_t fields[3];
+
+static int64_t handle(int task)
+{
+    switch (task) {
+    case COPY: memcpy(out, whole, whole_size); return (int64_t)whole_size;
+    case DRAW: return draw(OURS);
+    case CHECK: return series_check(y, n, lambda, line.length, line.n, line.total, line.n);
+    case COMPLETE: return sheet_complete(bare, bare_size, out, whole_size);
+    case CONFIRM: return sheet_complete(whole, whole_size, out, whole_size);
+    case READ: return sheet_read(whole, whole_size, samples, n, other.length, n, other.total, n, fields, 3);
+    default: return sheet_write(y, n, lambda, line.length, line.n, line.total, line.n, out, whole_size);
+    }
+}
+
+static const char *const names[] = {"copy", "line", "check", "complete", "complete, filed", "read", "write"};
+
+static int right(int task, int64_t r)
+{
+    switch (task) {
+    case DRAW: return r == (int64_t)line.n;
+    case CHECK: return r == 0;
+    case READ:
+        other.n = (size_t)r;
+        return fields[0] == n && fields[1] == line.n && fields[2] == lambda && !memcmp(samples, y, n * sizeof y[0]) && same_line(&other, &line);
+    default: return r == (int64_t)whole_size && !memcmp(out, whole, whole_size);
+    }
+}
+
+static void judge_sheet(int task, int64_t r)
+{
+    if (!right(task, r))
+        differ(names[task]);
+    memset(out, 0, sizeof out);
+}
+
+/* `line` holds the line of the samples */
+static void sheet_rows(void)
+{
+    double best[TASKS];
+    bare_size = paper_sheet(bare, y, n, lambda, NULL);
+    whole_size = paper_sheet(whole, y, n, lambda, &line);
+    measure(TASKS, handle, judge_sheet, best);
+    for (int i = DRAW; i < TASKS; i++) {
+        print_name(names[i]);
+        print_time(best[i]);
+        print_time(best[COPY]);
+        printf(" ");
+        print_ratio(best[i] / best[COPY]);
+        print_ratio(best[i] / best[DRAW]);
+        printf("\n");
+    }
+}
+
+/* ---- the inputs */
+static void noise(uint64_t smoothing)
+{
+    uint64_t state = 2013;
+    for (size_t i = 0; i < n; i++)
+        y[i] = (int32_t)(i * 12 / n % 5) * 300 + (int32_t)(next_number(&state) % 401) - 200;
+    lambda = smoothing;
+}
+
+/* One minute is cut off at a time, each after a scan of 2 * sqrt(lambda / slope) minutes; the first and the last segment have
+ * sqrt(2 * lambda / slope) minutes each. The scans are longest in sum where lambda is slope * n * n / 32: 0.17 * n * n minutes, for any slope. */
+static void ramp(void)
+{
+    for (size_t i = 0; i < n; i++)
+        y[i] = (int32_t)(256 * i) - LIMIT / 2;
+    lambda = 256 * (uint64_t)(n * n / 32);
+}
+
+/* A few minutes at the lower limit, a ramp, a few minutes at the upper limit: now each scan runs to the end before it cuts off one minute, nearly
+ * n * n / 2 minutes in all. No series takes more, as each scan cuts off at least the minute that it starts at. */
+static void worst(void)
+{
+    size_t few = n / 512;
+    for (size_t i = 0; i < n; i++)
+        y[i] = i < few ? -LIMIT : i >= n - few ? LIMIT : (int32_t)i;
+    lambda = (uint64_t)(n * n / 4);
+}
+
+static void noise_rows(void)
+{
+    noise((uint64_t)1 << 40);
+    line_row("noise, L = 2^40");
+    noise(5000);
+    line_row("noise, L = 5000");
+    noise(100);
+    line_row("noise, L = 100");
+}
+
+static void ramp_rows(void)
+{
+    ramp();
+    line_row("ramp");
+    if (n == 44640) /* to save time */
+        return;
+    worst();
+    line_row("worst ramp");
 }
 
 int main(void)
 {
-    static const size_t sizes[] = {1440, 44640, 65536};
-    printf("                                         ns a minute                          ours over\n");
-    printf("input                  minutes segments    ours    steps   string  Condat      steps string Condat\n");
+    static const size_t sizes[] = {1440, 44640, MOST};
+    printf("%-32s %-35s ours over\n", "line", "ns a minute");
+    printf("input           minutes segments   ours  clang    gcc string Condat   clang    gcc string Condat\n");
     for (int s = 0; s < 3; s++) {
-        size_t n = sizes[s];
-        for (size_t i = 0; i < n; i++)
-            yd[i] = y[i] = (int32_t)(i * 12 / n % 5) * 300 + noise();
-        measure("steps, small smoothing", n, 100);
-        measure("steps, middle", n, 5000);
-        measure("steps, one segment", n, (uint64_t)1 << 40);
+        n = sizes[s];
+        noise_rows();
     }
-    for (size_t i = 0; i < 8192; i++)
-        yd[i] = y[i] = (int32_t)(i / 16);
-    measure("slow ramp", 8192, 1 << 20);
+    for (int s = 0; s < 3; s++) {
+        n = sizes[s];
+        ramp_rows();
+    }
+    printf("\n%-32s %-14s ours over\n", "whole sheets, noise, L = 100", "ns a minute");
+    printf("task            minutes segments   ours memcpy  memcpy   line\n");
+    for (int s = 1; s < 3; s++) {
+        n = sizes[s];
+        noise(100);
+        line.n = (size_t)draw(OURS);
+        sheet_rows();
+    }
     return 0;
 }

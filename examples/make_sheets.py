@@ -4,6 +4,7 @@
     small.sheet          (0, 10) with smoothing 1, no line filed
     small_line.sheet     the same with its line, (1, 1)(1, 9)
     hour.sheet           60 minutes: two plateaus with noise
+    shift.sheet          480 minutes, eight hours: five plateaus and three short peaks, with noise; the picture in docs/line.svg
     month.sheet          44,640 minutes, 31 days: a delay that steps now and then, with noise
     wrong_line.sheet     (0, 10) with smoothing 1 and the line (1, 2)(1, 8): refused, 9 at minute 1
     wrong_field.sheet    small.sheet with 1 in field 28: refused, 12 at byte 28
@@ -32,11 +33,20 @@ def noisy(levels):
     return out
 
 
+def shift():
+    levels = [40] * 95 + [110] * 60 + [75] * 130 + [190] * 85 + [55] * 110
+    for first, length, peak in ((47, 2, 90), (228, 1, 140), (420, 3, 80)):
+        for k in range(first, first + length):
+            levels[k] += peak
+    return levels
+
+
 small = sheet([0, 10], 1)
 sheets = {
     "small": small,
     "small_line": sheet([0, 10], 1, [(1, 1), (1, 9)]),
     "hour": sheet(noisy([40] * 25 + [90] * 35), 60),
+    "shift": sheet(noisy(shift()), 200),
     "month": sheet(noisy([30 + 20 * (k // 1440 % 5) + 60 * (k % 1440 // 480 == 1) for k in range(44640)]), 200),
     "wrong_line": sheet([0, 10], 1, [(1, 2), (1, 8)]),
     "wrong_field": sheet([0, 10], 1, last_field=1),

@@ -4,6 +4,11 @@
 
 typedef __int128 wide;
 
+int same_line(const Line *a, const Line *b)
+{
+    return a->n == b->n && memcmp(a->length, b->length, a->n * sizeof a->length[0]) == 0 && memcmp(a->total, b->total, a->n * sizeof a->total[0]) == 0;
+}
+
 i64 refusal(i64 number, i64 place)
 {
     return -(256 * place + number);
@@ -30,11 +35,12 @@ static int order(uint32_t la, i64 ta, uint32_t lb, i64 tb)
     return (d > 0) - (d < 0);
 }
 
-i64 paper_check(const int32_t *y, size_t n, uint64_t lambda, const uint32_t *length, size_t lengths, const i64 *total, size_t totals)
+i64 paper_shape(size_t n, const uint32_t *length, size_t lengths, const i64 *total, size_t totals)
 {
-    i64 r = paper_limits(y, n, lambda);
-    if (r)
-        return r;
+    if (n == 0)
+        return refusal(1, 0);
+    if (n > MOST)
+        return refusal(2, 0);
     if (lengths == 0 || lengths != totals)
         return refusal(6, 0);
     wide sum = 0;
@@ -51,6 +57,16 @@ i64 paper_check(const int32_t *y, size_t n, uint64_t lambda, const uint32_t *len
     for (size_t s = 1; s < lengths; s++)
         if (order(length[s - 1], total[s - 1], length[s], total[s]) == 0)
             return refusal(8, (i64)s + 1);
+    return 0;
+}
+
+i64 paper_check(const int32_t *y, size_t n, uint64_t lambda, const uint32_t *length, size_t lengths, const i64 *total, size_t totals)
+{
+    i64 r = paper_limits(y, n, lambda);
+    if (!r)
+        r = paper_shape(n, length, lengths, total, totals);
+    if (r)
+        return r;
     /* u[k] as a fraction over the length of the segment that holds minute k; before a segment it is the whole u */
     wide u_top = 0, u_under = 1;
     size_t k = 0;
@@ -123,7 +139,8 @@ int paper_line_short(const int32_t *y, size_t n, uint64_t lambda, Line *out)
 }
 
 /* ---- the line of a long series: the taut string through the tube of half width lambda around the running sums, 0 at both ends. The least
- * concave majorant of the tube's floor and the greatest convex minorant of its roof, both from the last knot, are kept as hulls */
+ * concave majorant of the tube's floor and the greatest convex minorant of its roof, both from the last knot, are kept as hulls. Two points of
+ * the tube differ by at most 2^16 minutes and 2^40 + 2 * 2^40 tenths, so no product here reaches 2^58 and 64 bits hold their differences */
 typedef struct {
     size_t first, last;
     i64 x[MOST + 2], z[MOST + 2];
@@ -132,8 +149,8 @@ typedef struct {
 /* the hull bends the wrong way at its last point, seen from (x, z) */
 static int bends(const Hull *h, i64 x, i64 z, int sign)
 {
-    wide before = (wide)(h->z[h->last] - h->z[h->last - 1]) * (x - h->x[h->last]);
-    wide after = (wide)(z - h->z[h->last]) * (h->x[h->last] - h->x[h->last - 1]);
+    i64 before = (h->z[h->last] - h->z[h->last - 1]) * (x - h->x[h->last]);
+    i64 after = (z - h->z[h->last]) * (h->x[h->last] - h->x[h->last - 1]);
     return sign * (before - after) <= 0;
 }
 
@@ -160,8 +177,8 @@ static void follow(Hull *one, Hull *other, i64 x, i64 z, int sign, Line *out)
         return;
     while (other->last > other->first + 1) {
         size_t f = other->first;
-        wide direct = (wide)(z - other->z[f]) * (other->x[f + 1] - other->x[f]);
-        wide edge = (wide)(other->z[f + 1] - other->z[f]) * (x - other->x[f]);
+        i64 direct = (z - other->z[f]) * (other->x[f + 1] - other->x[f]);
+        i64 edge = (other->z[f + 1] - other->z[f]) * (x - other->x[f]);
         if (sign * (direct - edge) <= 0)
             return;
         emit(out, other->x[f + 1] - other->x[f], other->z[f + 1] - other->z[f]);
@@ -186,15 +203,130 @@ void paper_line_long(const int32_t *y, size_t n, uint64_t lambda, Line *out)
         follow(&floor, &roof, (i64)k, sum - w, 1, out);
         follow(&roof, &floor, (i64)k, sum + w, -1, out);
     }
-    Hull *h = floor.last - floor.first >= roof.last - roof.first ? &floor : &roof;
+    const Hull *h = floor.last - floor.first >= roof.last - roof.first ? &floor : &roof;
     for (size_t f = h->first; f < h->last; f++)
         emit(out, h->x[f + 1] - h->x[f], h->z[f + 1] - h->z[f]);
 }
 
-uint64_t next_number(uint64_t *state)
+const Known known_lines[KNOWN] = {
+    {1, {7}, 0, 1, {1}, {7}},
+    {1, {7}, (uint64_t)1 << 40, 1, {1}, {7}},
+    {2, {0, 10}, 0, 2, {1, 1}, {0, 10}},
+    {2, {0, 10}, 4, 2, {1, 1}, {4, 6}},
+    {2, {0, 10}, 5, 1, {2}, {10}},
+    {2, {10, 0}, 1, 2, {1, 1}, {9, 1}},
+    {3, {3, 3, 3}, 0, 1, {3}, {9}},
+    {3, {0, 0, 9}, 1, 2, {2, 1}, {1, 8}},
+    {3, {0, 6, 0}, 1, 3, {1, 1, 1}, {1, 4, 1}},
+    {3, {0, 6, 0}, 2, 1, {3}, {6}},
+    {3, {0, 4, 8}, 1, 3, {1, 1, 1}, {1, 4, 7}},
+    {2, {-1, -2}, 1, 1, {2}, {-3}},
+    {2, {-LIMIT, LIMIT}, LIMIT, 1, {2}, {0}},
+};
+
+/* ---- the sheet, from the paper's table */
+uint64_t get(const uint8_t *p, int width)
 {
-    *state ^= *state << 13;
-    *state ^= *state >> 7;
-    *state ^= *state << 17;
-    return *state * 0x2545f4914f6cdd1du >> 11;
+    uint64_t x = 0;
+    for (int i = width; i-- > 0;)
+        x = x << 8 | p[i];
+    return x;
+}
+
+void put(uint8_t *p, int width, uint64_t x)
+{
+    for (int i = 0; i < width; i++, x >>= 8)
+        p[i] = (uint8_t)x;
+}
+
+size_t paper_sheet(uint8_t *out, const int32_t *y, size_t n, uint64_t lambda, const Line *line)
+{
+    size_t m = line ? line->n : 0, size = 32 + 4 * n + 12 * m;
+    put(out, 4, n);
+    put(out + 4, 4, m);
+    put(out + 8, 4, 32);
+    put(out + 12, 4, 32 + 4 * n);
+    put(out + 16, 8, lambda);
+    put(out + 24, 4, size);
+    put(out + 28, 4, 0);
+    for (size_t i = 0; i < n; i++)
+        put(out + 32 + 4 * i, 4, (uint32_t)y[i]);
+    for (size_t s = 0; s < m; s++) {
+        put(out + 32 + 4 * n + 12 * s, 4, line->length[s]);
+        put(out + 36 + 4 * n + 12 * s, 8, (uint64_t)line->total[s]);
+    }
+    return size;
+}
+
+i64 paper_read(const uint8_t *s, size_t size, int32_t *y, Line *line)
+{
+    if (size < 32)
+        return refusal(10, 0);
+    uint64_t n = get(s, 4), m = get(s + 4, 4), lambda = get(s + 16, 8);
+    if (n == 0)
+        return refusal(1, 0);
+    if (n > MOST)
+        return refusal(2, 0);
+    if (m > n)
+        return refusal(11, 4);
+    if (get(s + 8, 4) != 32)
+        return refusal(12, 8);
+    if (get(s + 12, 4) != 32 + 4 * n)
+        return refusal(12, 12);
+    if (get(s + 24, 4) != 32 + 4 * n + 12 * m || get(s + 24, 4) != size)
+        return refusal(12, 24);
+    if (get(s + 28, 4) != 0)
+        return refusal(12, 28);
+    for (size_t i = 0; i < n; i++)
+        y[i] = (int32_t)(uint32_t)get(s + 32 + 4 * i, 4);
+    line->n = m;
+    for (size_t i = 0; i < m; i++) {
+        line->length[i] = (uint32_t)get(s + 32 + 4 * n + 12 * i, 4);
+        line->total[i] = (i64)get(s + 36 + 4 * n + 12 * i, 8);
+    }
+    return m == 0 ? paper_limits(y, n, lambda) : paper_check(y, n, lambda, line->length, m, line->total, m);
+}
+
+i64 paper_judge(const int32_t *y, size_t n, uint64_t lambda, const uint32_t *length, size_t lengths, const i64 *total, size_t totals)
+{
+    return lengths == 0 && totals == 0 ? paper_limits(y, n, lambda) : paper_check(y, n, lambda, length, lengths, total, totals);
+}
+
+/* ---- the chart */
+double paper_plot(uint32_t length, i64 total)
+{
+    /* total times 2^e over length, e such that the quotient has 53 bits; length is at most 2^16 and total at most 2^40 */
+    wide top = total < 0 ? -(wide)total : total;
+    int e = 0;
+    if (total == 0)
+        return 0;
+    while (top / length < (wide)1 << 52) {
+        top *= 2;
+        e++;
+    }
+    wide quotient = top / length, twice_rest = 2 * (top % length);
+    if (twice_rest > length || (twice_rest == length && quotient % 2 == 1))
+        quotient++;
+    double level = (double)(i64)quotient;
+    while (e-- > 0)
+        level /= 2;
+    return total < 0 ? -level : level;
+}
+
+i64 paper_mark(size_t n, const uint32_t *length, size_t lengths, const i64 *total, size_t totals, size_t minute, double level[2])
+{
+    i64 r = paper_shape(n, length, lengths, total, totals);
+    if (r)
+        return r;
+    if (minute < 1 || minute > n)
+        return refusal(13, 0);
+    /* the segments that hold this minute and the next one */
+    size_t a = 0, last = length[0];
+    while (last < minute)
+        last += length[++a];
+    size_t b = minute == last && minute < n ? a + 1 : a;
+    level[0] = paper_plot(length[a], total[a]);
+    level[1] = paper_plot(length[b], total[b]);
+    int way = order(length[a], total[a], length[b], total[b]);
+    return way == 0 ? 0 : way < 0 ? 1 : 2;
 }

@@ -1,4 +1,5 @@
-/* Paper 01 and Condat 2013 again, written from the papers alone and slowly: what the library is compared with. */
+/* Paper 01 and Condat 2013 again, written from the papers alone: what the library is compared with. The taut string and the sheets also serve
+ * the measurements of bench/. */
 #ifndef PAPER_H
 #define PAPER_H
 
@@ -16,11 +17,16 @@ typedef struct {
     i64 total[MOST];
 } Line;
 
+int same_line(const Line *a, const Line *b);
+
 /* minus (256 times the place, plus the number) */
 i64 refusal(i64 number, i64 place);
 
 /* 1, 2, 4, 3, or 0 */
 i64 paper_limits(const int32_t *y, size_t n, uint64_t lambda);
+
+/* the shape of a line of n minutes: 1, 2, 6, 7, 8, or 0 */
+i64 paper_shape(size_t n, const uint32_t *length, size_t lengths, const i64 *total, size_t totals);
 
 /* the check: 1, 2, 4, 3, 6, 7, 8, 9, or 0 */
 i64 paper_check(const int32_t *y, size_t n, uint64_t lambda, const uint32_t *length, size_t lengths, const i64 *total, size_t totals);
@@ -28,10 +34,43 @@ i64 paper_check(const int32_t *y, size_t n, uint64_t lambda, const uint32_t *len
 /* the line of a series of at most 6 minutes: the one pattern of rises, falls and flats that passes the check; 0 where there is not just one */
 int paper_line_short(const int32_t *y, size_t n, uint64_t lambda, Line *out);
 
-/* the line of any series, by a taut string */
+/* the line of any series, by a taut string, in linear time */
 void paper_line_long(const int32_t *y, size_t n, uint64_t lambda, Line *out);
 
-/* a stream of numbers; the same for the same state */
-uint64_t next_number(uint64_t *state);
+/* the paper's table of known lines */
+enum { KNOWN = 13 };
+typedef struct {
+    size_t n;
+    int32_t y[3];
+    uint64_t lambda;
+    size_t segments;
+    uint32_t length[3];
+    i64 total[3];
+} Known;
+extern const Known known_lines[KNOWN];
+
+/* ---- the sheet */
+/* no sheet is longer */
+enum { SHEET = 32 + 4 * MOST + 12 * MOST };
+
+/* a little-endian number of so many bytes */
+uint64_t get(const uint8_t *p, int width);
+void put(uint8_t *p, int width, uint64_t x);
+
+/* the sheet of a series with this line, or with none for NULL; its number of bytes */
+size_t paper_sheet(uint8_t *out, const int32_t *y, size_t n, uint64_t lambda, const Line *line);
+
+/* what a sheet holds: 10, 1, 2, 11, 12, 4, 3, then 6 to 9 where a line is filed, or 0 */
+i64 paper_read(const uint8_t *s, size_t size, int32_t *y, Line *line);
+
+/* whether these lists go into a sheet: 1, 2, 4, 3, then 6 to 9 unless both line lists are empty, or 0 */
+i64 paper_judge(const int32_t *y, size_t n, uint64_t lambda, const uint32_t *length, size_t lengths, const i64 *total, size_t totals);
+
+/* ---- the chart */
+/* total / length rounded once, to the nearest, ties to even: in whole numbers */
+double paper_plot(uint32_t length, i64 total);
+
+/* the mark of a minute, 0 plain, 1 rise, 2 fall, with the two levels: 1, 2, 6, 7, 8, 13 */
+i64 paper_mark(size_t n, const uint32_t *length, size_t lengths, const i64 *total, size_t totals, size_t minute, double level[2]);
 
 #endif

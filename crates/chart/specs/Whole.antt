@@ -8,7 +8,7 @@ use lib.Ieee.{Float}
 use Rattle.level.specs.Answer.{Answer, given, refuse-if}
 use Rattle.level.specs.Plot.{nearestTo}
 use Rattle.level.specs.declared.Level.{Level}
-use Rattle.denoise.specs.Limits.{overwrite, on-success}
+use Rattle.denoise.specs.Limits.{refill, on-success}
 use Rattle.denoise.specs.Shape.{well-shaped}
 use Rattle.chart.specs.Chart.{level}
 use Rattle.chart.specs.declared.ChartSegment.{ChartSegment}
@@ -38,10 +38,10 @@ module _ (n : ℕ) (ns : List ℕ) (ts : List ℤ) (firsts lasts : List ℕ) (le
 
   -- what the lists then hold
   abbrev pub firstsOf : List ℕ
-  firstsOf = on-success segmentsOf (overwrite (parts (λ s. s .first) ns ts) firsts) firsts
+  firstsOf = on-success segmentsOf (refill (parts (λ s. s .first) ns ts) firsts) firsts
 
   abbrev pub lastsOf : List ℕ
-  lastsOf = on-success segmentsOf (overwrite (parts (λ s. s .last) ns ts) lasts) lasts
+  lastsOf = on-success segmentsOf (refill (parts (λ s. s .last) ns ts) lasts) lasts
 
   abbrev pub levelsOf : List Float
-  levelsOf = on-success segmentsOf (overwrite (parts (λ s. s .level) ns ts) levels) levels
+  levelsOf = on-success segmentsOf (refill (parts (λ s. s .level) ns ts) levels) levels

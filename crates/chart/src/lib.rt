@@ -9,7 +9,7 @@ ghost use Rattle.level.specs.Answer.{given};
 ghost use Rattle.level.specs.Limits.{Valid};
 ghost use Rattle.level.specs.Order.{cross};
 ghost use Rattle.level.specs.Plot.{nearestTo};
-ghost use Rattle.denoise.specs.Limits.{overwrite};
+ghost use Rattle.denoise.specs.Limits.{refill};
 ghost use Rattle.denoise.specs.Dual.{filled};
 ghost use Rattle.denoise.specs.Shape.{sum};
 ghost use Rattle.chart.specs.Chart.{piece, marked, segment-at, step, mark-at, or-13, segmentOf, markOf};
@@ -142,9 +142,9 @@ fn fill(lengths: &[u32], totals: &[i64], firsts: &mut [u32], lasts: &mut [u32], 
     requires { ⌜ length (now lengths) ≤ length (now firsts) ⌝ }
     requires { ⌜ length (now lengths) ≤ length (now lasts) ⌝ }
     requires { ⌜ length (now lengths) ≤ length (now levels) ⌝ }
-    ensures { λ _. ⌜ now (firsts .exit) ≡ overwrite (parts (λ s. s .first) (now (lengths .entry)) (now (totals .entry))) (now (firsts .entry)) ⌝ }
-    ensures { λ _. ⌜ now (lasts .exit) ≡ overwrite (parts (λ s. s .last) (now (lengths .entry)) (now (totals .entry))) (now (lasts .entry)) ⌝ }
-    ensures { λ _. ⌜ now (levels .exit) ≡ overwrite (parts (λ s. s .level) (now (lengths .entry)) (now (totals .entry))) (now (levels .entry)) ⌝ }
+    ensures { λ _. ⌜ now (firsts .exit) ≡ refill (parts (λ s. s .first) (now (lengths .entry)) (now (totals .entry))) (now (firsts .entry)) ⌝ }
+    ensures { λ _. ⌜ now (lasts .exit) ≡ refill (parts (λ s. s .last) (now (lengths .entry)) (now (totals .entry))) (now (lasts .entry)) ⌝ }
+    ensures { λ _. ⌜ now (levels .exit) ≡ refill (parts (λ s. s .level) (now (lengths .entry)) (now (totals .entry))) (now (levels .entry)) ⌝ }
 {
     let mut before = 0;
     let mut k = 0;

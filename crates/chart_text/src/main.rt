@@ -5,36 +5,22 @@
 use chart::Mark;
 use chart::Piece;
 use denoise::Filled;
+use printing::put;
+use printing::put_bits;
+use printing::put_refusal;
+use printing::put_unsigned;
 
 mod lines;
 
-fn put(text: &[u8]) {
-    io::write_all(1, text);
-}
-
-fn put_unsigned(n: u64) {
-    io::print_decimal(1, n);
-}
-
 fn put_level(v: f64) {
     put(b" ");
-    if v == v {
-        let bits = f64::to_bits(v);
-        io::print_hex(1, bits, 16);
-    }
-}
-
-fn put_refusal(number: u32, place: usize) {
-    put(b" refused ");
-    put_unsigned(number as u64);
-    put(b" ");
-    put_unsigned(place as u64);
+    put_bits(v);
 }
 
 fn put_piece(p: Piece) {
+    put(b" ");
     match p {
         Piece::Segment(s) => {
-            put(b" ");
             put_unsigned(s.first as u64);
             put(b" ");
             put_unsigned(s.last as u64);
@@ -45,18 +31,19 @@ fn put_piece(p: Piece) {
 }
 
 fn put_mark(m: Mark) {
+    put(b" ");
     match m {
         Mark::Level(v) => {
-            put(b" level");
+            put(b"level");
             put_level(v);
         }
         Mark::Rise(before, after) => {
-            put(b" rise");
+            put(b"rise");
             put_level(before);
             put_level(after);
         }
         Mark::Fall(before, after) => {
-            put(b" fall");
+            put(b"fall");
             put_level(before);
             put_level(after);
         }
@@ -80,13 +67,11 @@ fn put_minute(n: usize, lengths: &[u32], totals: &[i64], minute: usize) {
 
 fn put_filled(f: Filled) {
     put(b"filled");
-    match f {
-        Filled::Done => put(b"\n"),
-        Filled::Refused(number, place) => {
-            put_refusal(number, place);
-            put(b"\n");
-        }
+    if let Filled::Refused(number, place) = f {
+        put(b" ");
+        put_refusal(number, place);
     }
+    put(b"\n");
 }
 
 fn put_entry(first: u32, last: u32, level: f64) {

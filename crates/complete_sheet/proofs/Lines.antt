@@ -10,22 +10,22 @@ use borrow.Author.Tests.{le-ltb}
 use Rattle.optimality.specs.Segments.{Segment}
 use Rattle.optimality.specs.Plain.{lens, totals}
 use Rattle.optimality.specs.Machine.{plain-line}
-use Rattle.codec.specs.Place as Place
+use Rattle.codec.specs.Place.{overwrite}
 use Rattle.level.specs.Answer.{given}
-use Rattle.denoise.specs.Limits.{overwrite}
+use Rattle.denoise.specs.Limits.{refill}
 use Rattle.denoise.specs.Line.{lineOf, lengthsOf, totalsOf}
 use Rattle.denoise.proofs.Admitted.{within, passed}
 use Rattle.sheet.specs.Complete.{Has}
 use Rattle.sheet.proofs.Judged.{line-few}
 use Rattle.complete_sheet.specs.Report.{line-text, Ready}
 
-pub take-overwrite : {A : Type 0} (new old : List A) → take (length new) (overwrite new old) ≡ new
-unfolding overwrite
-take-overwrite new old = take-at new (drop (length new) old) (length new) refl
+pub take-refill : {A : Type 0} (new old : List A) → take (length new) (refill new old) ≡ new
+unfolding refill
+take-refill new old = take-at new (drop (length new) old) (length new) refl
 
-pub length-overwrite : {A : Type 0} (new old : List A) → length new ≤ length old → length (overwrite new old) ≡ length old
-unfolding overwrite
-length-overwrite new old h = length-append new (drop (length new) old) ∙ simp length-drop (omega arith)
+pub length-refill : {A : Type 0} (new old : List A) → length new ≤ length old → length (refill new old) ≡ length old
+unfolding refill
+length-refill new old h = length-append new (drop (length new) old) ∙ simp length-drop (omega arith)
 
 module _ (ys : List ℤ) (L m : ℕ) (ns : List ℕ) (ts : List ℤ) (ready : Ready ys L m ns ts) where
   abbrev l : List Segment
@@ -42,8 +42,8 @@ module _ (ys : List ℤ) (L m : ℕ) (ns : List ℕ) (ts : List ℤ) (ready : Re
 
   pub drawn-line : (k : ℕ) (ns′ : List ℕ) (ts′ : List ℤ) → k ≡ length l → ns′ ≡ lengthsOf ys L ns ts → ts′ ≡ totalsOf ys L ns ts → Has l k ns′ ts′
   drawn-line k ns′ ts′ e p q =
-      let p′ : ns′ ≡ overwrite (lens l) ns = p ∙ rw draws in
-      let q′ : ts′ ≡ overwrite (totals l) ts = q ∙ rw draws in
+      let p′ : ns′ ≡ refill (lens l) ns = p ∙ rw draws in
+      let q′ : ts′ ≡ refill (totals l) ts = q ∙ rw draws in
       let a : length (lens l) ≡ length l = length-map l _ in
       let b : length (totals l) ≡ length l = length-map l _ in
       let rn = ready .lengths-room in
@@ -51,10 +51,10 @@ module _ (ys : List ℤ) (L m : ℕ) (ns : List ℕ) (ts : List ℤ) (ready : Re
       record {
         count = e;
         few = omega (arith, fewer, few);
-        lengths = rw (p′, e, ← a) (take-overwrite (lens l) ns);
-        totals = rw (q′, e, ← b) (take-overwrite (totals l) ts);
-        lengths-room = rw p′ (omega (arith, length-overwrite (lens l) ns (omega (arith, a, fewer)), fewer));
-        totals-room = rw q′ (omega (arith, length-overwrite (totals l) ts (omega (arith, b, fewer)), fewer));
+        lengths = rw (p′, e, ← a) (take-refill (lens l) ns);
+        totals = rw (q′, e, ← b) (take-refill (totals l) ts);
+        lengths-room = rw p′ (omega (arith, length-refill (lens l) ns (omega (arith, a, fewer)), fewer));
+        totals-room = rw q′ (omega (arith, length-refill (totals l) ts (omega (arith, b, fewer)), fewer));
       }
 
   pub filed-line : 0 < m → Has l m ns ts
@@ -73,6 +73,6 @@ module _ (ys : List ℤ) (L m : ℕ) (ns : List ℕ) (ts : List ℤ) (ready : Re
 
 -- the line is what is shown
 pub shown : {l : List Segment} {m : ℕ} {ns : List ℕ} {ts : List ℤ} → Has l m ns ts → (minutes smoothing : ℕ) {r : ℕ} (s : List ℕ) {s′ : List ℕ}
-    → (r ≡ length (line-text minutes smoothing (take m ns) (take m ts))) × (s′ ≡ Place.overwrite s 0 (line-text minutes smoothing (take m ns) (take m ts)))
-    → (r ≡ length (line-text minutes smoothing (lens l) (totals l))) × (s′ ≡ Place.overwrite s 0 (line-text minutes smoothing (lens l) (totals l)))
+    → (r ≡ length (line-text minutes smoothing (take m ns) (take m ts))) × (s′ ≡ overwrite s 0 (line-text minutes smoothing (take m ns) (take m ts)))
+    → (r ≡ length (line-text minutes smoothing (lens l) (totals l))) × (s′ ≡ overwrite s 0 (line-text minutes smoothing (lens l) (totals l)))
 shown h minutes smoothing s e = rw (h .lengths, h .totals) at e

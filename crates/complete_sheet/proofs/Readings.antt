@@ -10,7 +10,7 @@ use lib.Seq.{take-at}
 use lib.IntN.{ℤ, pos}
 use Rattle.optimality.specs.Machine.{plain-line}
 use Rattle.level.specs.Answer.{given}
-use Rattle.denoise.specs.Limits.{overwrite}
+use Rattle.denoise.specs.Limits.{refill}
 use Rattle.denoise.proofs.Refusals.{never, if-past}
 use Rattle.sheet.specs.Answer.{fields}
 use Rattle.sheet.specs.Format.{minutes, segment-count, smoothing, samples, lengths, totals, read-sample, read-length}
@@ -23,7 +23,7 @@ use Rattle.sheet.specs.declared.Fields.{Fields}
 use Rattle.sheet.proofs.Chains.{same-given, passed, accepted-alike}
 use Rattle.sheet.proofs.Judged.{Judged, judged}
 use Rattle.complete_sheet.specs.Report.{Ready}
-use Rattle.complete_sheet.proofs.Lines.{length-overwrite}
+use Rattle.complete_sheet.proofs.Lines.{length-refill}
 
 -- a sheet that is accepted
 module _ (s : List ℕ) (e : accepted s fine ≡ fine) where
@@ -61,14 +61,14 @@ module _ (s : List ℕ) (ys : List ℤ) (ns : List ℕ) (ts : List ℤ) (f : Fie
 
   module _ (ys′ : List ℤ) (p : ys′ ≡ samplesAfter s ys ns ts) where
     pub samples-read : take (f .minutes) ys′ ≡ samples s
-    unfolding overwrite
+    unfolding refill
     samples-read =
-        let q : ys′ ≡ overwrite (samples s) ys = p ∙ rw e in
+        let q : ys′ ≡ refill (samples s) ys = p ∙ rw e in
         rw (q, found .header) (take-at (samples s) _ (minutes s) (length-records 4 read-sample _ _))
 
     module _ (ns′ : List ℕ) (ts′ : List ℤ) (q : ns′ ≡ lengthsAfter s ys ns ts) (r : ts′ ≡ totalsAfter s ys ns ts) where
-      ready : Ready (samples s) (smoothing s) (segment-count s) (overwrite (lengths s) ns) (overwrite (totals s) ts)
-      unfolding overwrite
+      ready : Ready (samples s) (smoothing s) (segment-count s) (refill (lengths s) ns) (refill (totals s) ts)
+      unfolding refill
       ready =
           let j = judgement s passes in
           let N : length (samples s) ≡ minutes s = length-records 4 read-sample _ _ in
@@ -78,8 +78,8 @@ module _ (s : List ℕ) (ys : List ℤ) (ns : List ℕ) (ts : List ℤ) (f : Fie
           let same = j .same in
           record {
             limited = j .limited;
-            lengths-room = omega (arith, length-overwrite (lengths s) ns (omega arith), N);
-            totals-room = omega (arith, length-overwrite (totals s) ts (omega arith), N);
+            lengths-room = omega (arith, length-refill (lengths s) ns (omega arith), N);
+            totals-room = omega (arith, length-refill (totals s) ts (omega arith), N);
             own =
                 λ h.
                 ⊎-elim (λ z. absurd (omega arith))
@@ -89,6 +89,6 @@ module _ (s : List ℕ) (ys : List ℤ) (ns : List ℕ) (ts : List ℤ) (f : Fie
 
       pub ready-read : Ready (take (f .minutes) ys′) (f .smoothing) (f .segments) ns′ ts′
       ready-read =
-          let q′ : ns′ ≡ overwrite (lengths s) ns = q ∙ rw e in
-          let r′ : ts′ ≡ overwrite (totals s) ts = r ∙ rw e in
+          let q′ : ns′ ≡ refill (lengths s) ns = q ∙ rw e in
+          let r′ : ts′ ≡ refill (totals s) ts = r ∙ rw e in
           rw (samples-read, found .header, q′, r′) ready

@@ -15,3 +15,8 @@ code (refused number place) = refusal number place
 abbrev pub code-of-none : Answer (Unit {0}) → ℤ
 code-of-none (given x) = pos 0
 code-of-none (refused number place) = refusal number place
+
+-- where all that is to be filled is counted beforehand: an entry a sample, an entry a segment
+abbrev pub code-of-all : ℕ → Answer (Unit {0}) → ℤ
+code-of-all count (given x) = pos count
+code-of-all count (refused number place) = refusal number place

@@ -16,7 +16,7 @@ use Rattle.optimality.specs.Plain.{segments, lens, totals, length-plain, formed
 use Rattle.optimality.specs.Machine.{plain-line}
 use Rattle.optimality.specs.Theorems as Theorems
 use Rattle.level.specs.Answer.{given}
-use Rattle.denoise.specs.Limits.{overwrite}
+use Rattle.denoise.specs.Limits.{refill}
 use Rattle.denoise.specs.Dual.{duals-inside, duals, factors, balancesOf, balancesAfter}
 use Rattle.denoise.proofs.Refusals.{never}
 use Rattle.denoise.proofs.CheckLaws.{limits-past}
@@ -128,11 +128,11 @@ module _ (ys : List ℤ) (L : ℕ) (out : List ℤ) (e : balancesOf ys L out ≡
 
   pub balanced : (Q : ℕ) → 0 < Q → Scale Q l → (k : ℕ) → k < length ys →
       pos (getD (factors Q l) k 0) *ℤ getD (balancesAfter ys L out) k (pos 0) ≡ dual (pos Q) (pos 0) (plain ys) (numerators Q l) (suc k)
-  unfolding overwrite
+  unfolding refill
   balanced Q p z k h =
       let a = agreed Q p z in
       let n : k < length (plain ys) = omega (arith, length-plain ys) in
-      let b : balancesAfter ys L out ≡ overwrite (duals (pos 0) ys l) out = rw e in
+      let b : balancesAfter ys L out ≡ refill (duals (pos 0) ys l) out = rw e in
       ap (λ (xs : List ℤ). pos (getD (factors Q l) k 0) *ℤ getD xs k (pos 0)) b
       ∙ ap (λ x. pos (getD (factors Q l) k 0) *ℤ x) (List·getD-append (duals (pos 0) ys l) _ (pos 0) k (omega (arith, one-each (pos Q) (pos 0) (plain ys) _ _ _ a)))
       ∙ at (pos Q) (pos 0) (plain ys) (numerators Q l) (factors Q l) (duals (pos 0) ys l) a k n

@@ -17,7 +17,7 @@ use Rattle.optimality.specs.Minimum.{PlainMinimum}
 use Rattle.optimality.specs.Candidate.{plain-minimum}
 use Rattle.optimality.specs.Theorems as Theorems
 use Rattle.level.specs.Answer.{given}
-use Rattle.denoise.specs.Limits.{overwrite}
+use Rattle.denoise.specs.Limits.{refill}
 use Rattle.denoise.specs.Line.{lineOf, lengthsOf, totalsOf}
 use Rattle.denoise.proofs.Refusals.{if-past, never}
 use Rattle.denoise.proofs.CheckLaws.{Limited, limits-past}
@@ -26,8 +26,8 @@ module _ (ys : List ℤ) (L : ℕ) (ns : List ℕ) (ts : List ℤ) (m : ℕ) (e 
   abbrev l : List Segment
   l = plain-line (pos L) ys
 
-  first-list : {A : Type 0} (f : Segment → A) (old new : List A) → m ≡ length l → new ≡ overwrite (map f l) old → (take m new ≡ map f l) × (drop m new ≡ drop m old)
-  unfolding overwrite
+  first-list : {A : Type 0} (f : Segment → A) (old new : List A) → m ≡ length l → new ≡ refill (map f l) old → (take m new ≡ map f l) × (drop m new ≡ drop m old)
+  unfolding refill
   first-list f old new k h =
       let n : length (map f l) ≡ m = length-map l f ∙ sym k in
       (ap (take m) h ∙ take-at (map f l) _ m n, ap (drop m) h ∙ drop-at (map f l) _ m n ∙ ap (λ j. drop j old) n)

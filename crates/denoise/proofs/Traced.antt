@@ -12,7 +12,7 @@ use Rattle.optimality.specs.Segments.{Segment, by-divisor, then-v}
 use Rattle.optimality.specs.Limits.{Slight}
 use Rattle.optimality.specs.Series.{plain-minute}
 use Rattle.optimality.specs.Machine.{begin, plain-line}
-use Rattle.denoise.specs.Limits.{overwrite}
+use Rattle.denoise.specs.Limits.{refill}
 use Rattle.denoise.specs.Dual.{duals-inside, duals}
 use Rattle.denoise.specs.Run.{Within, Good, Turns, Emits, Stops, dataOf, stateOf, segmentOf, rest}
 use Rattle.denoise.specs.Trace.{Fills, filledOf, markOf, minutes}
@@ -20,7 +20,7 @@ use Rattle.denoise.specs.declared.steps.Run.{Run}
 use Rattle.denoise.specs.declared.steps.Mark.{Mark}
 use Rattle.denoise.specs.declared.steps.Piece.{Piece}
 use Rattle.denoise.proofs.Turn.{Goes, begins}
-use Rattle.denoise.proofs.Written.{whole, sets-overwrite}
+use Rattle.denoise.proofs.Written.{whole, sets-refill}
 use Rattle.denoise.proofs.Tame.{Tame, line-tame}
 
 -- ---- lengths
@@ -115,6 +115,6 @@ module _ (ys : List ℤ) (smoothing : ℕ) (out₀ : List ℤ) where
       pub stop-fills : Fills ys m p
       stop-fills = fills (S .rest) (omega (arith, K .at, S .long, S .short)) (S .above) (S .small)
 
-      pub traced-end : length ys ≤ length out₀ → sets out (m .i) (filledOf ys m p) ≡ overwrite (duals (pos 0) ys line) out₀
+      pub traced-end : length ys ≤ length out₀ → sets out (m .i) (filledOf ys m p) ≡ refill (duals (pos 0) ys line) out₀
       unfolding duals
-      traced-end h = sym (opened (S .rest) (stop-fills .upto)) ∙ K .left ∙ sets-overwrite (duals (pos 0) ys line) out₀ (omega (arith, duals-short (pos 0) ys line))
+      traced-end h = sym (opened (S .rest) (stop-fills .upto)) ∙ K .left ∙ sets-refill (duals (pos 0) ys line) out₀ (omega (arith, duals-short (pos 0) ys line))

@@ -11,7 +11,7 @@ use lib.IntN.{ℤ, pos}
 use Rattle.optimality.specs.Segments.{Segment}
 use Rattle.optimality.specs.Machine.{begin, plain-line}
 use Rattle.optimality.specs.Sound.{lines, line-lines}
-use Rattle.denoise.specs.Limits.{overwrite}
+use Rattle.denoise.specs.Limits.{refill}
 use Rattle.denoise.specs.Run.{Within, Good, Emits, Stops, dataOf, stateOf, segmentOf, rest, len-of, total-of}
 use Rattle.denoise.specs.declared.steps.Run.{Run}
 use Rattle.denoise.specs.declared.steps.Piece.{Piece}
@@ -19,9 +19,9 @@ use Rattle.denoise.proofs.Room.{right}
 use Rattle.denoise.proofs.Turn.{Goes, begins}
 
 -- as many stores as there is room for
-pub sets-overwrite : {A : Type 0} (new old : List A) → length new ≤ length old → sets old 0 new ≡ overwrite new old
-unfolding overwrite
-sets-overwrite new old h = sets-eq new old 0 (rw zero-add h) ∙ rw zero-add
+pub sets-refill : {A : Type 0} (new old : List A) → length new ≤ length old → sets old 0 new ≡ refill new old
+unfolding refill
+sets-refill new old h = sets-eq new old 0 (rw zero-add h) ∙ rw zero-add
 
 module _ (ys : List ℤ) (smoothing : ℕ) where
   abbrev line : List Segment
@@ -91,11 +91,11 @@ module _ (ys : List ℤ) (smoothing : ℕ) where
       pub count-end : m + 1 ≡ length line
       count-end = omega (arith, K .count, ap length (S .rest))
 
-      end : {A : Type 0} (f : Segment → A) (xs₀ xs : List A) → length ys ≤ length xs₀ → Left f xs₀ xs m r → set xs m (f (segmentOf p)) ≡ overwrite (map f line) xs₀
-      end f xs₀ xs h L = sym (ap (λ l. sets xs m (map f l)) (S .rest)) ∙ L ∙ sets-overwrite (map f line) xs₀ (rw (length-map line f) (omega (arith, count-end, K .few, K .short)))
+      end : {A : Type 0} (f : Segment → A) (xs₀ xs : List A) → length ys ≤ length xs₀ → Left f xs₀ xs m r → set xs m (f (segmentOf p)) ≡ refill (map f line) xs₀
+      end f xs₀ xs h L = sym (ap (λ l. sets xs m (map f l)) (S .rest)) ∙ L ∙ sets-refill (map f line) xs₀ (rw (length-map line f) (omega (arith, count-end, K .few, K .short)))
 
-      pub lengths-end : length ys ≤ length lengths₀ → set lengths m (p .len) ≡ overwrite (map len-of line) lengths₀
+      pub lengths-end : length ys ≤ length lengths₀ → set lengths m (p .len) ≡ refill (map len-of line) lengths₀
       lengths-end h = end len-of lengths₀ lengths h (K .lengths-left)
 
-      pub totals-end : length ys ≤ length totals₀ → set totals m (p .total) ≡ overwrite (map total-of line) totals₀
+      pub totals-end : length ys ≤ length totals₀ → set totals m (p .total) ≡ refill (map total-of line) totals₀
       totals-end h = end total-of totals₀ totals h (K .totals-left)

@@ -9,7 +9,7 @@ use Rattle.optimality.specs.Series.{plain-minute}
 use Rattle.optimality.specs.Segments.{Segment, by-divisor, then-v}
 use Rattle.optimality.specs.Machine.{plain-line}
 use Rattle.level.specs.Answer.{Answer, refused, given, refuse-if}
-use Rattle.denoise.specs.Limits.{in-limits, overwrite, on-success}
+use Rattle.denoise.specs.Limits.{in-limits, refill, on-success}
 use Rattle.denoise.specs.declared.Filled.{Filled}
 use Rattle.denoise.specs.declared.Filled.the-variants as Filled
 
@@ -38,4 +38,4 @@ module _ (ys : List ℤ) (smoothing : ℕ) (out : List ℤ) where
 
   -- what the list then holds
   abbrev pub balancesAfter : List ℤ
-  balancesAfter = on-success balancesOf (overwrite (duals (pos 0) ys (plain-line (pos smoothing) ys)) out) out
+  balancesAfter = on-success balancesOf (refill (duals (pos 0) ys (plain-line (pos smoothing) ys)) out) out

@@ -8,7 +8,7 @@ use lib.IntN.{ℤ, pos}
 use Rattle.optimality.specs.Segments.{Segment}
 use Rattle.optimality.specs.Machine.{plain-line}
 use Rattle.level.specs.Answer.{Answer, refused, given, refuse-if}
-use Rattle.denoise.specs.Limits.{in-limits, overwrite, on-success}
+use Rattle.denoise.specs.Limits.{in-limits, refill, on-success}
 use Rattle.denoise.specs.declared.Drawn.{Drawn}
 use Rattle.denoise.specs.declared.Drawn.the-variants as Drawn
 
@@ -23,7 +23,7 @@ module _ (ys : List ℤ) (smoothing : ℕ) (lengths : List ℕ) (totals : List �
 
   -- what the two lists then hold
   abbrev pub lengthsOf : List ℕ
-  lengthsOf = on-success lineOf (overwrite (map (λ (s : Segment). s .len) (plain-line (pos smoothing) ys)) lengths) lengths
+  lengthsOf = on-success lineOf (refill (map (λ (s : Segment). s .len) (plain-line (pos smoothing) ys)) lengths) lengths
 
   abbrev pub totalsOf : List ℤ
-  totalsOf = on-success lineOf (overwrite (map (λ (s : Segment). s .total) (plain-line (pos smoothing) ys)) totals) totals
+  totalsOf = on-success lineOf (refill (map (λ (s : Segment). s .total) (plain-line (pos smoothing) ys)) totals) totals

@@ -6,7 +6,7 @@ ghost use Prim.Native.Nat.{_≤_, _<_};
 ghost use lib.ListN.{length, set};
 ghost use lib.IntN.{pos};
 ghost use Rattle.optimality.specs.Machine.{plain-line};
-ghost use Rattle.denoise.specs.Limits.{overwrite};
+ghost use Rattle.denoise.specs.Limits.{refill};
 ghost use Rattle.denoise.specs.Run.{Within, len-of, total-of};
 use super::steps;
 use super::steps::Mark;
@@ -19,8 +19,8 @@ pub fn draw(samples: &[i32], smoothing: u64, lengths: &mut [u32], totals: &mut [
     requires { ⌜ length (now samples) ≤ length (now lengths) ⌝ }
     requires { ⌜ length (now samples) ≤ length (now totals) ⌝ }
     ensures { λ m. ⌜ m ≡ length (plain-line (pos smoothing) (now (samples .entry))) ⌝ }
-    ensures { λ m. ⌜ now (lengths .exit) ≡ overwrite (map len-of (plain-line (pos smoothing) (now (samples .entry)))) (now (lengths .entry)) ⌝ }
-    ensures { λ m. ⌜ now (totals .exit) ≡ overwrite (map total-of (plain-line (pos smoothing) (now (samples .entry)))) (now (totals .entry)) ⌝ }
+    ensures { λ m. ⌜ now (lengths .exit) ≡ refill (map len-of (plain-line (pos smoothing) (now (samples .entry)))) (now (lengths .entry)) ⌝ }
+    ensures { λ m. ⌜ now (totals .exit) ≡ refill (map total-of (plain-line (pos smoothing) (now (samples .entry)))) (now (totals .entry)) ⌝ }
 {
     let mut m = 0;
     let mut r = steps::begin(samples, smoothing, Mark { i: 0, u: 0 });

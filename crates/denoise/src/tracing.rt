@@ -8,7 +8,7 @@ ghost use lib.IntN.{pos};
 ghost use Rattle.integers.specs.Bounds.{Upto};
 ghost use Rattle.optimality.specs.Limits.{Slight};
 ghost use Rattle.optimality.specs.Machine.{plain-line};
-ghost use Rattle.denoise.specs.Limits.{overwrite};
+ghost use Rattle.denoise.specs.Limits.{refill};
 ghost use Rattle.denoise.specs.Dual.{duals};
 ghost use Rattle.denoise.specs.Run.{Within};
 ghost use Rattle.denoise.specs.Trace.{Steady, Fills, minuteOf, filledOf, markOf};
@@ -28,7 +28,7 @@ pub struct Dual {
 pub fn trace(samples: &[i32], smoothing: u64, out: &mut [i64])
     requires { ⌜ Within (now samples) smoothing ⌝ }
     requires { ⌜ length (now samples) ≤ length (now out) ⌝ }
-    ensures { λ _. ⌜ now (out .exit) ≡ overwrite (duals (pos 0) (now (samples .entry)) (plain-line (pos smoothing) (now (samples .entry)))) (now (out .entry)) ⌝ }
+    ensures { λ _. ⌜ now (out .exit) ≡ refill (duals (pos 0) (now (samples .entry)) (plain-line (pos smoothing) (now (samples .entry)))) (now (out .entry)) ⌝ }
 {
     let mut m = Mark { i: 0, u: 0 };
     let mut r = steps::begin(samples, smoothing, m);

@@ -130,12 +130,6 @@ abs-* (pos m) (negsuc n) = abs-neg (pos (m * suc n))
 abs-* (negsuc m) (pos n) = abs-neg (pos (suc m * n))
 abs-* (negsuc m) (negsuc n) = refl
 
-pub ⩽abs : (x : ℤ) → x ⩽ absℤ x
-⩽abs = by1 _ (λ a b. simp natify (omega arith))
-
-pub abs⩽ : (x : ℤ) → negℤ (absℤ x) ⩽ x
-abs⩽ = by1 _ (λ a b. simp natify (omega arith))
-
 -- ---- a test's outcome
 pub lt-true : {x y : ℤ} → ltZ x y ≡ true → x ⋖ y
 lt-true e = ltZ-yes (subst T (sym e) tt)

@@ -5,29 +5,13 @@ use level::Compared;
 use level::Level;
 use level::Made;
 use level::Plotted;
+use printing::put;
+use printing::put_bits;
+use printing::put_refusal;
+use printing::put_signed;
+use printing::put_unsigned;
 
 mod vectors;
-
-fn put(text: &[u8]) {
-    io::write_all(1, text);
-}
-
-fn put_unsigned(n: u64) {
-    io::print_decimal(1, n);
-}
-
-fn put_signed(t: i64) {
-    let mut text = [0u8; 20];
-    let n = text::put_signed_decimal(&mut text, 0, t);
-    put(&text[..n]);
-}
-
-fn put_refusal(number: u32, place: usize) {
-    put(b"refused ");
-    put_unsigned(number as u64);
-    put(b" ");
-    put_unsigned(place as u64);
-}
 
 fn put_level(a: Level) {
     put_unsigned(a.length as u64);
@@ -54,12 +38,7 @@ fn put_compared(c: Compared) {
 
 fn put_plotted(p: Plotted) {
     match p {
-        Plotted::Value(v) => {
-            if v == v {
-                let bits = f64::to_bits(v);
-                io::print_hex(1, bits, 16);
-            }
-        }
+        Plotted::Value(v) => put_bits(v),
         Plotted::Refused(number, place) => put_refusal(number, place),
     }
 }

@@ -20,7 +20,7 @@ use Rattle.optimality.specs.Minimum.{PlainMinimum}
 use Rattle.optimality.specs.Candidate.{plain-minimum}
 use Rattle.optimality.specs.Verdict as Verdict
 use Rattle.level.specs.Answer.{Answer, given}
-use Rattle.denoise.specs.Limits.{in-limits, overwrite}
+use Rattle.denoise.specs.Limits.{in-limits, refill}
 use Rattle.denoise.specs.Check.{meets-conditions}
 use Rattle.denoise.proofs.CheckLaws.{Limited, passes-line↔}
 use Rattle.sheet.specs.Format.{smoothing, samples, lengths, totals, size}
@@ -99,7 +99,7 @@ module _ (s out : List ℕ) (b : ℕ) (e : completeOf s out ≡ given b) where
   bytes-few = omega (arith, sized .1, line-few (samples s) (smoothing s) (limited .some), limited .few)
 
   bytes-written : take b (completedAfter s out) ≡ completed (samples s) (smoothing s)
-  unfolding overwrite
+  unfolding refill
   bytes-written = rw e (take-at (completed (samples s) (smoothing s)) _ b (length-of (samples s) (smoothing s) _ _ (line-accepted (samples s) (smoothing s) limited) ∙ ap (size (length (samples s))) (length-map (plain-line (pos (smoothing s)) (samples s)) _) ∙ sized .1))
 
   pub completes : Completed s (take b (completedAfter s out))

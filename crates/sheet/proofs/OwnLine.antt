@@ -12,7 +12,7 @@ use Rattle.optimality.specs.Segments.{Segment, lengths}
 use Rattle.optimality.specs.Plain.{lens, totals}
 use Rattle.optimality.specs.Machine.{plain-line}
 use Rattle.level.specs.Answer.{Answer, refused, given}
-use Rattle.denoise.specs.Limits.{in-limits, overwrite}
+use Rattle.denoise.specs.Limits.{in-limits, refill}
 use Rattle.denoise.specs.Line.{lineOf, lengthsOf, totalsOf}
 use Rattle.denoise.proofs.Admitted.{within, passed}
 use Rattle.sheet.specs.Answer.{fields}
@@ -25,13 +25,13 @@ use Rattle.sheet.specs.Complete.{finishOf, finishedAfter, completeOf, co
 use Rattle.sheet.specs.declared.Fields.{Fields}
 use Rattle.sheet.proofs.Judged.{line-few, Judged, judged}
 
-take-overwrite : {A : Type 0} (new old : List A) → take (length new) (overwrite new old) ≡ new
-unfolding overwrite
-take-overwrite new old = take-at new (drop (length new) old) (length new) refl
+take-refill : {A : Type 0} (new old : List A) → take (length new) (refill new old) ≡ new
+unfolding refill
+take-refill new old = take-at new (drop (length new) old) (length new) refl
 
-length-overwrite : {A : Type 0} (new old : List A) → length new ≤ length old → length (overwrite new old) ≡ length old
-unfolding overwrite
-length-overwrite new old h = length-append new (drop (length new) old) ∙ simp length-drop (omega arith)
+length-refill : {A : Type 0} (new old : List A) → length new ≤ length old → length (refill new old) ≡ length old
+unfolding refill
+length-refill new old h = length-append new (drop (length new) old) ∙ simp length-drop (omega arith)
 
 module _ (ys : List ℤ) (L : ℕ) (ns : List ℕ) (ts : List ℤ) (ok : in-limits ys L fine ≡ fine) (rn : 65536 ≤ length ns) (rt : 65536 ≤ length ts) where
   abbrev l : List Segment
@@ -48,17 +48,17 @@ module _ (ys : List ℤ) (L : ℕ) (ns : List ℕ) (ts : List ℤ) (ok : in-limi
 
   pub drawn-line : (m : ℕ) (ns′ : List ℕ) (ts′ : List ℤ) → m ≡ length l → ns′ ≡ lengthsOf ys L ns ts → ts′ ≡ totalsOf ys L ns ts → Has l m ns′ ts′
   drawn-line m ns′ ts′ e p q =
-      let p′ : ns′ ≡ overwrite (lens l) ns = p ∙ rw draws in
-      let q′ : ts′ ≡ overwrite (totals l) ts = q ∙ rw draws in
+      let p′ : ns′ ≡ refill (lens l) ns = p ∙ rw draws in
+      let q′ : ts′ ≡ refill (totals l) ts = q ∙ rw draws in
       let a : length (lens l) ≡ length l = length-map l _ in
       let b : length (totals l) ≡ length l = length-map l _ in
       record {
         count = e;
         few = omega (arith, some-few, few);
-        lengths = rw (p′, e, ← a) (take-overwrite (lens l) ns);
-        totals = rw (q′, e, ← b) (take-overwrite (totals l) ts);
-        lengths-room = rw p′ (omega (arith, length-overwrite (lens l) ns (omega (arith, a, some-few, few)), some-few, few));
-        totals-room = rw q′ (omega (arith, length-overwrite (totals l) ts (omega (arith, b, some-few, few)), some-few, few));
+        lengths = rw (p′, e, ← a) (take-refill (lens l) ns);
+        totals = rw (q′, e, ← b) (take-refill (totals l) ts);
+        lengths-room = rw p′ (omega (arith, length-refill (lens l) ns (omega (arith, a, some-few, few)), some-few, few));
+        totals-room = rw q′ (omega (arith, length-refill (totals l) ts (omega (arith, b, some-few, few)), some-few, few));
       }
 
 pub filed-line : (ys : List ℤ) (L m : ℕ) (ns : List ℕ) (ts : List ℤ) → Ready ys L m ns ts → 0 < m → Has (plain-line (pos L) ys) m ns ts
@@ -95,7 +95,7 @@ module _ (ys : List ℤ) (L : ℕ) (out : List ℕ) (m : ℕ) where
 
   pub done : (ns : List ℕ) (ts : List ℤ) (out′ : List ℕ) → Has l′ m ns ts → size (length ys) m ≤ length out
       → out′ ≡ sheet-bytes ys L (take m ns) (take m ts) ++ drop (size (length ys) (length (take m ns))) out → (given (size (length ys) m) ≡ finishOf ys L out) × (out′ ≡ finishedAfter ys L out)
-  unfolding overwrite
+  unfolding refill
   done ns ts out′ H h e =
       let r : finishOf ys L out ≡ given (size (length ys) (length l′)) = rw (le-ltb (length out) (size (length ys) (length l′)) (omega (arith, H .count))) in
       let same : length (lens l′) ≡ length (totals l′) = length-map l′ _ ∙ sym (length-map l′ _) in

@@ -9,7 +9,7 @@ use lib.Seq.{take-at}
 use lib.IntN.{ℤ}
 use Rattle.codec.specs.PlaceLaws.{Bytes}
 use Rattle.level.specs.Answer.{given}
-use Rattle.denoise.specs.Limits.{in-limits, overwrite}
+use Rattle.denoise.specs.Limits.{in-limits, refill}
 use Rattle.sheet.specs.Format.{minutes, segment-count, line-offset, smoothing, samples, lengths, totals, size, sheet-bytes, read-length}
 use Rattle.sheet.specs.HeadLaws.{InOrder, none-differs}
 use Rattle.sheet.specs.HeadLaws as HeadLaws
@@ -31,7 +31,7 @@ pub record Holds (ys : List ℤ) (L : ℕ) (ns : List ℕ) (ts : List ℤ) (o : 
   pub readable : accepted o fine ≡ fine
 
 pub writes : (ys : List ℤ) (L : ℕ) (ns : List ℕ) (ts : List ℤ) (out : List ℕ) (b : ℕ) → writeOf ys L ns ts out ≡ given b → Holds ys L ns ts (take b (writtenAfter ys L ns ts out))
-unfolding overwrite
+unfolding refill
 writes ys L ns ts out b e =
     let p = passed (lists-alike {y = fine} ys L ns ts) e in
     let sized : size (length ys) (length ns) ≡ b = has-room out _ b (p .0) .1 in

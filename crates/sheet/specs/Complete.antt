@@ -9,7 +9,7 @@ use Rattle.optimality.specs.Plain.{lens}
 use Rattle.optimality.specs.Plain as Plain
 use Rattle.optimality.specs.Machine.{plain-line}
 use Rattle.level.specs.Answer.{Answer, given}
-use Rattle.denoise.specs.Limits.{in-limits, overwrite, on-success}
+use Rattle.denoise.specs.Limits.{in-limits, refill, on-success}
 use Rattle.sheet.specs.Format.{smoothing, samples, size, sheet-bytes}
 use Rattle.sheet.specs.Read.{accepted}
 use Rattle.sheet.specs.Write.{room}
@@ -23,7 +23,7 @@ module _ (ys : List ℤ) (L : ℕ) where
   finishOf out = room out (size (length ys) (length (plain-line (pos L) ys)))
 
   abbrev pub finishedAfter : List ℕ → List ℕ
-  finishedAfter out = on-success (finishOf out) (overwrite completed out) out
+  finishedAfter out = on-success (finishOf out) (refill completed out) out
 
 module _ (s out : List ℕ) where
   abbrev pub completeOf : Answer ℕ
@@ -31,7 +31,7 @@ module _ (s out : List ℕ) where
 
   -- what the output then holds
   abbrev pub completedAfter : List ℕ
-  completedAfter = on-success completeOf (overwrite (completed (samples s) (smoothing s)) out) out
+  completedAfter = on-success completeOf (refill (completed (samples s) (smoothing s)) out) out
 
 -- ---- what the completer's own lists hold on the way
 abbrev pub fine : Answer (Unit {0})

@@ -6,7 +6,7 @@ use lib.Dec.{eqb, ltb}
 use lib.ListN.{length}
 use lib.IntN.{ℤ}
 use Rattle.level.specs.Answer.{Answer, given, refuse-if}
-use Rattle.denoise.specs.Limits.{in-limits, overwrite, on-success}
+use Rattle.denoise.specs.Limits.{in-limits, refill, on-success}
 use Rattle.denoise.specs.Check.{meets-conditions}
 use Rattle.sheet.specs.Format.{minutes, smoothing, samples, lengths, totals}
 use Rattle.sheet.specs.Head.{well-headed}
@@ -32,10 +32,10 @@ module _ (s : List ℕ) (ys : List ℤ) (ns : List ℕ) (ts : List ℤ) where
 
   -- what the lists then hold
   abbrev pub samplesAfter : List ℤ
-  samplesAfter = on-success readOf (overwrite (samples s) ys) ys
+  samplesAfter = on-success readOf (refill (samples s) ys) ys
 
   abbrev pub lengthsAfter : List ℕ
-  lengthsAfter = on-success readOf (overwrite (lengths s) ns) ns
+  lengthsAfter = on-success readOf (refill (lengths s) ns) ns
 
   abbrev pub totalsAfter : List ℤ
-  totalsAfter = on-success readOf (overwrite (totals s) ts) ts
+  totalsAfter = on-success readOf (refill (totals s) ts) ts

@@ -14,7 +14,7 @@ use Rattle.codec.specs.Laws.{decode-encode}
 use Rattle.level.specs.Answer.{Answer}
 use Rattle.sheet.specs.Format.{read-sample, read-length, minutes, segment-count, smoothing, line-offset, size, samples, lengths, totals, header, sample-bytes, segment-bytes, sheet-bytes}
 use Rattle.sheet.specs.Head.{wrong-field, well-headed}
-use Rattle.sheet.specs.HeadLaws.{AsInTable, none-differs, as-in-table, length-as-in-table, passes}
+use Rattle.sheet.specs.HeadLaws.{AsInTable, as-in-table, length-as-in-table, passes}
 use Rattle.sheet.specs.ListLaws.{Naturals, Integers, length-sample-bytes, length-segment-bytes, length-records, samples-read, lengths-read, totals-read, number-written, samples-written, segments-written}
 
 pub length-header : (n m smoothing : ℕ) → length (header n m smoothing) ≡ 32
@@ -78,9 +78,6 @@ module _ (ys : List ℤ) (L : ℕ) (ns : List ℕ) (ts : List ℤ) (same : lengt
           all = rw length-sheet-bytes (decode-encode 4 (size (length ys) (length ns)) small);
           field-28 = decode-encode 4 0 (omega arith);
         }
-
-    pub wrong-field-of-written : wrong-field (sheet-bytes ys L ns ts) ≡ none
-    wrong-field-of-written = none-differs (sheet-bytes ys L ns ts) table-of-written
 
   pub well-headed-of-written : {A : Type 0} (answer : Answer A) → 1 ≤ length ys → length ys ≤ 65536 → length ns ≤ length ys
       → well-headed (sheet-bytes ys L ns ts) answer ≡ answer

@@ -5,7 +5,7 @@ use lib.Dec.{ltb}
 use lib.ListN.{length}
 use lib.IntN.{ℤ}
 use Rattle.level.specs.Answer.{Answer, refused, given, refuse-if}
-use Rattle.denoise.specs.Limits.{in-limits, overwrite, on-success}
+use Rattle.denoise.specs.Limits.{in-limits, refill, on-success}
 use Rattle.sheet.specs.Format.{size, sheet-bytes}
 use Rattle.sheet.specs.Read.{filed}
 use Rattle.sheet.specs.declared.Written.{Written}
@@ -26,4 +26,4 @@ module _ (ys : List ℤ) (smoothing : ℕ) (ns : List ℕ) (ts : List ℤ) (out 
 
   -- what the output then holds
   abbrev pub writtenAfter : List ℕ
-  writtenAfter = on-success writeOf (overwrite (sheet-bytes ys smoothing ns ts) out) out
+  writtenAfter = on-success writeOf (refill (sheet-bytes ys smoothing ns ts) out) out

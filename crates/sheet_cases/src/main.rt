@@ -1,36 +1,18 @@
 // Runs stored sheets through the reader, the writer and the completer and prints what each answers and what it leaves in lent memory.
 // tests/sheet_cases.py makes the sheets and `stdout` from the paper.
 
+use printing::put;
+use printing::put_refusal;
+use printing::put_signed;
+use printing::put_unsigned;
 use sheet::Fields;
 use sheet::Reading;
 use sheet::Written;
 
 mod vectors;
 
-fn put(text: &[u8]) {
-    io::write_all(1, text);
-}
-
-fn put_unsigned(n: u64) {
-    io::print_decimal(1, n);
-}
-
-fn put_signed(t: i64) {
-    let mut text = [0u8; 20];
-    let n = text::put_signed_decimal(&mut text, 0, t);
-    put(&text[..n]);
-}
-
-fn put_refusal(number: u32, place: usize) {
-    put(b" refused ");
-    put_unsigned(number as u64);
-    put(b" ");
-    put_unsigned(place as u64);
-    put(b"\n");
-}
-
 fn put_fields(f: Fields) {
-    put(b" valid ");
+    put(b"valid ");
     put_unsigned(f.minutes as u64);
     put(b" ");
     put_unsigned(f.segments as u64);
@@ -118,11 +100,13 @@ fn put_changed(xs: &[u8], from: usize) {
 }
 
 fn put_written(written: Written, out: &[u8]) {
-    put(b"written");
+    put(b"written ");
     match written {
-        Written::Refused(number, place) => put_refusal(number, place),
+        Written::Refused(number, place) => {
+            put_refusal(number, place);
+            put(b"\n");
+        }
         Written::Bytes(count) => {
-            put(b" ");
             put_unsigned(count as u64);
             put(b" ");
             put_hex(out, count);
@@ -157,10 +141,11 @@ fn show_write(f: Fields, samples: &[i32], lengths: &[u32], totals: &[i64]) {
 }
 
 fn put_reading(reading: Reading, samples: &[i32], lengths: &[u32], totals: &[i64]) {
-    put(b"read");
+    put(b"read ");
     match reading {
         Reading::Refused(number, place) => {
             put_refusal(number, place);
+            put(b"\n");
             put_lists(samples, lengths, totals);
         }
         Reading::Valid(f) => {
@@ -195,14 +180,14 @@ fn show_read(sheet: &[u8], p: usize, q: usize, r: usize) {
 }
 
 fn put_completed(written: Written, out: &[u8]) {
-    put(b"complete");
+    put(b"complete ");
     match written {
         Written::Refused(number, place) => {
             put_refusal(number, place);
+            put(b"\n");
             put_changed(out, 0);
         }
         Written::Bytes(count) => {
-            put(b" ");
             put_unsigned(count as u64);
             put(b"\n");
             put_hex(out, count);

@@ -7,7 +7,7 @@ use Prim.Native.Nat.{ℕ}
 use lib.IntN.{ℤ}
 use lib.Ieee.{Float}
 use Rattle.level.specs.Answer.{Answer, given}
-use Rattle.denoise.specs.Limits.{overwrite, on-success}
+use Rattle.denoise.specs.Limits.{refill, on-success}
 use Rattle.denoise.specs.Check.{checked, shapeOf}
 use Rattle.denoise.specs.declared.Checked.{Checked}
 use Rattle.chart.specs.Drawable.{Drawable}
@@ -26,16 +26,16 @@ enum-known-number c = search needs
 abbrev Answered : ℕ → List ℕ → List ℤ → List ℕ → List ℕ → List Float → Answer (Unit {0}) → Type 0
 Answered n ns ts firsts lasts levels x =
     (x ≡ segmentsOf n ns ts firsts lasts levels)
-    × ((on-success x (overwrite (parts (λ s. s .first) ns ts) firsts) firsts ≡ firstsOf n ns ts firsts lasts levels)
-    × ((on-success x (overwrite (parts (λ s. s .last) ns ts) lasts) lasts ≡ lastsOf n ns ts firsts lasts levels)
-    × (on-success x (overwrite (parts (λ s. s .level) ns ts) levels) levels ≡ levelsOf n ns ts firsts lasts levels)))
+    × ((on-success x (refill (parts (λ s. s .first) ns ts) firsts) firsts ≡ firstsOf n ns ts firsts lasts levels)
+    × ((on-success x (refill (parts (λ s. s .last) ns ts) lasts) lasts ≡ lastsOf n ns ts firsts lasts levels)
+    × (on-success x (refill (parts (λ s. s .level) ns ts) levels) levels ≡ levelsOf n ns ts firsts lasts levels)))
 
 answered : (n : ℕ) (ns : List ℕ) (ts : List ℤ) (firsts lasts : List ℕ) (levels : List Float) {x : Answer (Unit {0})} → x ≡ segmentsOf n ns ts firsts lasts levels → Answered n ns ts firsts lasts levels x
 answered n ns ts firsts lasts levels e = (
   e,
   (
-    ap (λ x. on-success x (overwrite (parts (λ s. s .first) ns ts) firsts) firsts) e,
-    (ap (λ x. on-success x (overwrite (parts (λ s. s .last) ns ts) lasts) lasts) e, ap (λ x. on-success x (overwrite (parts (λ s. s .level) ns ts) levels) levels) e),
+    ap (λ x. on-success x (refill (parts (λ s. s .first) ns ts) firsts) firsts) e,
+    (ap (λ x. on-success x (refill (parts (λ s. s .last) ns ts) lasts) lasts) e, ap (λ x. on-success x (refill (parts (λ s. s .level) ns ts) levels) levels) e),
   ),
 )
 

@@ -9,7 +9,7 @@ use borrow.Author.Tests.{lt-ltb, le-ltb}
 use lib.Dec.{ltb}
 use lib.ListN.{length, drop}
 use Rattle.level.specs.Answer.{Answer, refused, given, refuse-if}
-use Rattle.denoise.specs.Limits.{overwrite}
+use Rattle.denoise.specs.Limits.{refill}
 use Rattle.sheet.specs.Answer.{headed, fields}
 use Rattle.sheet.specs.Format.{records}
 use Rattle.sheet.specs.HeadLaws.{InOrder, length-as-in-table}
@@ -84,9 +84,9 @@ read-segments-requires c κs =
     let t = told (c .before .before .before .before .before .before .before .before .before .before .before) in
     omega (arith, length-as-in-table _ (t .0 .table), t .0 .fewer, ap (λ f. f .minutes) (t .1 .0), ap (λ f. f .segments) (t .1 .0))
 
-overwrite-records : {A : Type 0} (size : ℕ) (read : List ℕ → A) (n : ℕ) (s : List ℕ) (old : List A) → overwrite (records size read n s) old ≡ records size read n s ++ drop n old
-unfolding overwrite
-overwrite-records size read n s old = rw length-records
+refill-records : {A : Type 0} (size : ℕ) (read : List ℕ → A) (n : ℕ) (s : List ℕ) (old : List A) → refill (records size read n s) old ≡ records size read n s ++ drop n old
+unfolding refill
+refill-records size read n s old = rw length-records
 
 returns-5 : tie.Need-returns-5
 returns-5 c =
@@ -100,10 +100,10 @@ returns-5 c =
     let e : answer (v .before .before .before .before .before) ≡ given (v .f .given .0 .0) = told v .1 .1 ∙ rw (le-ltb _ _ (l .if1 .left), le-ltb _ _ (m .if2 .left), le-ltb _ _ (n .if3 .left)) in (
       sym e,
       (
-        rw (e, overwrite-records) (rw f at (r .read-samples .ensures)),
+        rw (e, refill-records) (rw f at (r .read-samples .ensures)),
         (
-          rw (e, overwrite-records) (rw f at (g .read-segments .ensures .0)),
-          rw (e, overwrite-records) (rw f at (g .read-segments .ensures .1)),
+          rw (e, refill-records) (rw f at (g .read-segments .ensures .0)),
+          rw (e, refill-records) (rw f at (g .read-segments .ensures .1)),
         ),
       ),
     )

@@ -6,7 +6,7 @@ use borrow.Author.Needs.{needs}
 use borrow.Author.Tests.{lt-ltb, le-ltb}
 use lib.ListN.{length}
 use Rattle.level.specs.Answer.{Answer, refused, given}
-use Rattle.denoise.specs.Limits.{in-limits, overwrite}
+use Rattle.denoise.specs.Limits.{in-limits, refill}
 use Rattle.denoise.specs.Check.{checked}
 use Rattle.sheet.specs.Format.{size}
 use Rattle.sheet.specs.SheetLaws.{length-sheet-bytes}
@@ -60,7 +60,7 @@ put-sheet-requires : tie.Need-put-sheet-requires
 put-sheet-requires c κs = omega (arith, told (c .before .before) .0)
 
 returns-3 : tie.Need-returns-3
-unfolding overwrite
+unfolding refill
 returns-3 c =
     let p = c .before .before in
     let l = p .before .before in

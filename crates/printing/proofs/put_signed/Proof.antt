@@ -1,9 +1,9 @@
--- `sheet_cases::put_signed` is safe: the text is at most 20 bytes.
+-- `printing::put_signed` is safe: the text is at most 20 bytes.
 use borrow.Author.Needs.{needs}
 use native.Mathlib.Omega.{arith}
 use lib.ListN.{length-take}
-use Rattle.sheet_cases.proofs.put_signed.Statement.{statement}
-use Rattle.sheet_cases.proofs.put_signed.Tie as tie
+use Rattle.printing.proofs.put_signed.Statement.{statement}
+use Rattle.printing.proofs.put_signed.Tie as tie
 
 slice-aggregate-put : tie.Need-slice-aggregate-put
 slice-aggregate-put c = simp length-take (omega (arith, c .before .before .put-signed-decimal .kept))

@@ -1,0 +1,674 @@
+/* Reads and writes sheets and draws charts through the C entries, and compares results, every entry and byte of the lent areas, written or not, and
+ * the inputs with an implementation written from paper 01 alone. Known lines; every refusal beside those that come after it; lists exact, too short
+ * and longer; 1 and 65,536 minutes; random and damaged sheets, and lists of any shape; the stack that the header names.
+ *
+ *     lists [COUNT [GUARD]]      COUNT random sheets (default 40000)
+ *
+ * Each call gets areas of its own from malloc, with GUARD bytes (default 64) before and after that must stay as they are. With GUARD 0 the areas are
+ * exactly as long as the call is told, fewer sets of refusals are tried and no stack: for a run under valgrind.
+ *
+ * Seeds are fixed. A difference prints the seed and what was handed over. */
+#define _GNU_SOURCE
+#include <inttypes.h>
+#include <stdio.h>
+#include <stdlib.h>
+#include <string.h>
+#include <sys/mman.h>
+#include <ucontext.h>
+
+#include "../include/dawhikura.h"
+#include "paper.h"
+#include "random.h"
+
+static size_t guard = 64;
+static uint64_t seed, state;
+static unsigned long reads, writes, segments, marks, completed, numbers[256];
+
+static uint64_t next(void)
+{
+    return next_number(&state);
+}
+
+/* ---- what is handed over, for the message */
+static struct {
+    const char *call;
+    const uint8_t *sheet;
+    size_t size;
+    const int32_t *y;
+    size_t minutes;
+    uint64_t lambda;
+    const uint32_t *length;
+    size_t lengths;
+    const i64 *total;
+    size_t totals, minute, room[4];
+} handed;
+
+static void fail(const char *what)
+{
+    printf("%s: %s, seed %" PRIu64 ", room %zu %zu %zu %zu", handed.call, what, seed, handed.room[0], handed.room[1], handed.room[2], handed.room[3]);
+    if (handed.sheet) {
+        printf(", sheet of %zu bytes", handed.size);
+        for (size_t i = 0; i < handed.size && i < 800; i++)
+            printf("%s%02x", i % 4 ? "" : " ", handed.sheet[i]);
+    } else {
+        printf(", minutes %zu, minute %zu, smoothing %" PRIu64, handed.minutes, handed.minute, handed.lambda);
+        for (size_t i = 0; handed.y && i < handed.minutes && i < 64; i++)
+            printf(" %" PRId32, handed.y[i]);
+        printf(", lengths");
+        for (size_t i = 0; i < handed.lengths && i < 64; i++)
+            printf(" %" PRIu32, handed.length[i]);
+        printf(", totals");
+        for (size_t i = 0; i < handed.totals && i < 64; i++)
+            printf(" %" PRId64, handed.total[i]);
+    }
+    printf("\n");
+    exit(1);
+}
+
+/* ---- the areas of a call, each beside what it must hold afterwards */
+static struct {
+    uint8_t *got, *want;
+    size_t bytes;
+} areas[5];
+static int used;
+
+static uint8_t *block(size_t bytes)
+{
+    uint8_t *p = malloc(bytes);
+    if (!p && bytes) {
+        printf("out of memory\n");
+        exit(2);
+    }
+    if (bytes)
+        memset(p, 0xa5 - used, bytes);
+    return p;
+}
+
+/* entries for the call to fill */
+static void *lend(size_t bytes)
+{
+    areas[used].bytes = bytes + 2 * guard;
+    areas[used].got = block(areas[used].bytes);
+    areas[used].want = block(areas[used].bytes);
+    return areas[used++].got + guard;
+}
+
+static void copy(void *to, const void *from, size_t bytes)
+{
+    if (bytes)
+        memcpy(to, from, bytes);
+}
+
+/* that the area number i, counted from 0, begins with these entries after the call */
+static void expect(int i, const void *entries, size_t bytes)
+{
+    copy(areas[i].want + guard, entries, bytes);
+}
+
+/* an input, which stays as it is */
+static const void *hand(const void *entries, size_t bytes)
+{
+    void *p = lend(bytes);
+    copy(p, entries, bytes);
+    expect(used - 1, entries, bytes);
+    return p;
+}
+
+static i64 judge(i64 want, i64 got)
+{
+    if (got != want) {
+        printf("expected %" PRId64 ", got %" PRId64 "; ", want, got);
+        fail("another result");
+    }
+    if (got < 0)
+        numbers[-got % 256]++;
+    while (used > 0) {
+        used--;
+        if (areas[used].bytes && memcmp(areas[used].got, areas[used].want, areas[used].bytes))
+            fail("an area holds something else");
+        free(areas[used].got);
+        free(areas[used].want);
+    }
+    return got;
+}
+
+/* ---- the calls */
+static i64 compare_read(const uint8_t *sheet, size_t size, const size_t room[4])
+{
+    static int32_t y[MOST];
+    static Line line;
+    memset(&handed, 0, sizeof handed);
+    handed.call = "sheet_read";
+    handed.sheet = sheet;
+    handed.size = size;
+    copy(handed.room, room, sizeof handed.room);
+    int32_t *samples = lend(4 * room[0]);
+    uint32_t *lengths = lend(4 * room[1]);
+    i64 *totals = lend(8 * room[2]);
+    uint64_t *fields = lend(8 * room[3]);
+    const uint8_t *in = hand(sheet, size);
+    i64 want = paper_read(sheet, size, y, &line);
+    if (want == 0) {
+        uint64_t three[] = {get(sheet, 4), line.n, get(sheet + 16, 8)};
+        if (room[0] < three[0] || room[1] < three[0] || room[2] < three[0] || room[3] < 3)
+            want = refusal(5, 0);
+        else {
+            expect(0, y, 4 * three[0]);
+            expect(1, line.length, 4 * line.n);
+            expect(2, line.total, 8 * line.n);
+            expect(3, three, sizeof three);
+            want = (i64)line.n;
+        }
+    }
+    reads++;
+    return judge(want, sheet_read(in, size, samples, room[0], lengths, room[1], totals, room[2], fields, room[3]));
+}
+
+static void hand_line(const char *call, size_t n, const uint32_t *length, size_t lengths, const i64 *total, size_t totals)
+{
+    memset(&handed, 0, sizeof handed);
+    handed.call = call;
+    handed.minutes = n;
+    handed.length = length;
+    handed.lengths = lengths;
+    handed.total = total;
+    handed.totals = totals;
+}
+
+static i64 compare_write(const int32_t *y, size_t n, uint64_t lambda, const uint32_t *length, size_t lengths, const i64 *total, size_t totals, size_t room)
+{
+    static Line line;
+    static uint8_t sheet[SHEET];
+    hand_line("sheet_write", n, length, lengths, total, totals);
+    handed.y = y;
+    handed.lambda = lambda;
+    handed.room[0] = room;
+    uint8_t *out = lend(room);
+    const int32_t *y_in = hand(y, 4 * n);
+    const uint32_t *length_in = hand(length, 4 * lengths);
+    const i64 *total_in = hand(total, 8 * totals);
+    i64 want = paper_judge(y, n, lambda, length, lengths, total, totals);
+    if (want == 0) {
+        line.n = lengths;
+        copy(line.length, length, 4 * lengths);
+        copy(line.total, total, 8 * totals);
+        want = (i64)paper_sheet(sheet, y, n, lambda, &line);
+        if (room < (size_t)want)
+            want = refusal(5, 0);
+        else
+            expect(0, sheet, (size_t)want);
+    }
+    writes++;
+    return judge(want, sheet_write(y_in, n, lambda, length_in, lengths, total_in, totals, out, room));
+}
+
+static i64 compare_segments(size_t n, const uint32_t *length, size_t lengths, const i64 *total, size_t totals, const size_t room[3])
+{
+    hand_line("chart_segments", n, length, lengths, total, totals);
+    copy(handed.room, room, 3 * sizeof room[0]);
+    uint32_t *firsts = lend(4 * room[0]), *lasts = lend(4 * room[1]);
+    double *levels = lend(8 * room[2]);
+    const uint32_t *length_in = hand(length, 4 * lengths);
+    const i64 *total_in = hand(total, 8 * totals);
+    i64 want = paper_shape(n, length, lengths, total, totals);
+    if (want == 0 && (room[0] < lengths || room[1] < lengths || room[2] < lengths))
+        want = refusal(5, 0);
+    if (want == 0) {
+        uint32_t minute = 0;
+        for (size_t s = 0; s < lengths; s++) {
+            uint32_t first = minute + 1, last = minute += length[s];
+            double level = paper_plot(length[s], total[s]);
+            copy(areas[0].want + guard + 4 * s, &first, sizeof first);
+            copy(areas[1].want + guard + 4 * s, &last, sizeof last);
+            copy(areas[2].want + guard + 8 * s, &level, sizeof level);
+        }
+        want = (i64)lengths;
+    }
+    segments++;
+    return judge(want, chart_segments(n, length_in, lengths, total_in, totals, firsts, room[0], lasts, room[1], levels, room[2]));
+}
+
+static i64 compare_mark(size_t n, const uint32_t *length, size_t lengths, const i64 *total, size_t totals, size_t minute, size_t room)
+{
+    double level[2];
+    hand_line("chart_mark", n, length, lengths, total, totals);
+    handed.minute = minute;
+    handed.room[0] = room;
+    double *levels = lend(8 * room);
+    const uint32_t *length_in = hand(length, 4 * lengths);
+    const i64 *total_in = hand(total, 8 * totals);
+    i64 want = paper_mark(n, length, lengths, total, totals, minute, level);
+    if (want >= 0 && room < 2)
+        want = refusal(5, 0);
+    if (want >= 0)
+        expect(0, level, sizeof level);
+    marks++;
+    return judge(want, chart_mark(n, length_in, lengths, total_in, totals, minute, levels, room));
+}
+
+/* that a call, just compared with the paper's implementation, got what is written here by hand */
+static void must(i64 got, i64 want)
+{
+    if (got != want) {
+        printf("%" PRId64 " by hand, got %" PRId64 "; ", want, got);
+        fail("not what is written by hand");
+    }
+}
+
+/* ---- a line's chart, and a series through every call */
+static void chart(size_t n, const Line *line, size_t step)
+{
+    size_t m = line->n;
+    must(compare_segments(n, line->length, m, line->total, m, (size_t[]){m, m, m}), (i64)m);
+    must(compare_segments(n, line->length, m, line->total, m, (size_t[]){m + 3, m + 1, m + 2}), (i64)m);
+    for (int i = 0; i < 3; i++)
+        must(compare_segments(n, line->length, m, line->total, m, (size_t[]){m - (i == 0), m - (i == 1), m - (i == 2)}), refusal(5, 0));
+    for (size_t k = 1; k <= n; k += step)
+        compare_mark(n, line->length, m, line->total, m, k, 2 + k % 3);
+    must(compare_mark(n, line->length, m, line->total, m, n, 2), 0);
+    must(compare_mark(n, line->length, m, line->total, m, n, 1), refusal(5, 0));
+    must(compare_mark(n, line->length, m, line->total, m, 0, 2), refusal(13, 0));
+    must(compare_mark(n, line->length, m, line->total, m, n + 1, 1), refusal(13, 0));
+}
+
+static uint8_t sheet[SHEET + 1], other[SHEET + 1]; /* a sheet, or one byte more */
+
+/* a sheet without and one with its line: read, written and completed, with lists and outputs exact, too short and longer */
+static void everywhere(const int32_t *y, size_t n, uint64_t lambda, const Line *line)
+{
+    static int32_t samples[MOST];
+    static uint32_t lengths[MOST];
+    static i64 totals[MOST];
+    uint64_t fields[3];
+    for (int with = 0; with < 2; with++) {
+        size_t m = with ? line->n : 0, size = paper_sheet(sheet, y, n, lambda, with ? line : NULL);
+        must(compare_write(y, n, lambda, line->length, m, line->total, m, size), (i64)size);
+        must(compare_write(y, n, lambda, line->length, m, line->total, m, size - 1), refusal(5, 0));
+        must(compare_write(y, n, lambda, line->length, m, line->total, m, size + 77), (i64)size);
+        must(compare_read(sheet, size, (size_t[]){n, n, n, 3}), (i64)m);
+        must(compare_read(sheet, size, (size_t[]){n + 5, n + 1, n + 9, 7}), (i64)m);
+        must(compare_read(sheet, size, (size_t[]){n, n, n, 2}), refusal(5, 0));
+        for (int i = 0; i < 3; i++)
+            must(compare_read(sheet, size, (size_t[]){n - (i == 0), n - (i == 1), n - (i == 2), 3}), refusal(5, 0));
+        must(compare_read(sheet, size, (size_t[]){0, 0, 0, 0}), refusal(5, 0));
+        /* read, then written: the same bytes */
+        must(sheet_read(sheet, size, samples, n, lengths, n, totals, n, fields, 3), (i64)m);
+        must(sheet_write(samples, fields[0], fields[2], lengths, fields[1], totals, fields[1], other, sizeof other), (i64)size);
+        if (memcmp(other, sheet, size))
+            fail("read and written, the sheet differs");
+        /* written, then read: the same lists */
+        must(sheet_write(y, n, lambda, line->length, m, line->total, m, other, size), (i64)size);
+        must(sheet_read(other, size, samples, n, lengths, n, totals, n, fields, 3), (i64)m);
+        if (fields[0] != n || fields[1] != m || fields[2] != lambda)
+            fail("written and read, the fields differ");
+        if (memcmp(samples, y, 4 * n) || memcmp(lengths, line->length, 4 * m) || memcmp(totals, line->total, 8 * m))
+            fail("written and read, the lists differ");
+        /* completed, then read: the line */
+        size_t whole = 32 + 4 * n + 12 * line->n;
+        must(sheet_complete(sheet, size, other, whole), (i64)whole);
+        must(sheet_read(other, whole, samples, n, lengths, n, totals, n, fields, 3), (i64)line->n);
+        if (memcmp(samples, y, 4 * n) || memcmp(lengths, line->length, 4 * line->n) || memcmp(totals, line->total, 8 * line->n))
+            fail("completed and read, the lists differ");
+        completed++;
+    }
+}
+
+static void known(void)
+{
+    static Line line;
+    for (size_t r = 0; r < KNOWN; r++) {
+        const Known *k = &known_lines[r];
+        line.n = k->segments;
+        memcpy(line.length, k->length, sizeof k->length);
+        memcpy(line.total, k->total, sizeof k->total);
+        everywhere(k->y, k->n, k->lambda, &line);
+        chart(k->n, &line, 1);
+    }
+    /* the paper's -1.5; a total of 0 is plus zero; a fall, a rise, and a plain level before and after it */
+    double v[2], zero = 0;
+    must(chart_mark(2, (uint32_t[]){2}, 1, (i64[]){-3}, 1, 1, v, 2), 0);
+    must(v[0] == -1.5 && v[1] == -1.5, 1);
+    must(chart_mark(2, (uint32_t[]){2}, 1, (i64[]){0}, 1, 2, v, 2), 0);
+    must(memcmp(v, &zero, 8) || memcmp(v + 1, &zero, 8), 0);
+    must(chart_mark(2, (uint32_t[]){1, 1}, 2, (i64[]){9, 1}, 2, 1, v, 2), 2);
+    must(v[0] == 9 && v[1] == 1, 1);
+    must(chart_mark(4, (uint32_t[]){2, 2}, 2, (i64[]){1, 17}, 2, 2, v, 2), 1);
+    must(v[0] == 0.5 && v[1] == 8.5, 1);
+    must(chart_mark(4, (uint32_t[]){2, 2}, 2, (i64[]){1, 17}, 2, 1, v, 2), 0);
+    must(v[0] == 0.5 && v[1] == 0.5, 1);
+    must(chart_mark(4, (uint32_t[]){2, 2}, 2, (i64[]){1, 17}, 2, 4, v, 2), 0);
+    must(v[0] == 8.5 && v[1] == 8.5, 1);
+}
+
+/* two levels 1 / (32767 * 32769) apart, of which some plot alike: the kind follows the exact ones */
+static void close_levels(void)
+{
+    int alike = 0;
+    for (i64 k = LIMIT - 20; k < LIMIT; k++) {
+        double v[2];
+        uint32_t up[] = {32767, 32769}, down[] = {32769, 32767};
+        i64 rising[] = {16383 + 32767 * k, 16384 + 32769 * k}, falling[] = {rising[1], rising[0]};
+        must(compare_mark(MOST, up, 2, rising, 2, 32767, 2), 1);
+        must(compare_mark(MOST, down, 2, falling, 2, 32769, 2), 2);
+        must(chart_mark(MOST, up, 2, rising, 2, 32767, v, 2), 1);
+        alike += v[0] == v[1];
+    }
+    must(alike > 0, 1);
+}
+
+/* ---- refusals, with those that come after them in the same call; the numbers are written by hand */
+static const struct {
+    size_t lengths, totals;
+    uint32_t length[3];
+    i64 total[3];
+    i64 number, place;
+} lines[] = {
+    /* for the samples 0, 0, 9, 9 and a smoothing of 1 */
+    {0, 0, {0}, {0}, 0, 0},
+    {2, 2, {2, 2}, {1, 17}, 0, 0},
+    {0, 2, {0}, {1, 17}, 6, 0},
+    {2, 0, {2, 2}, {0}, 6, 0},
+    {2, 1, {0, 2}, {1}, 6, 0},
+    {3, 3, {2, 0, 2}, {INT64_MAX, 0, 17}, 6, 2},
+    {3, 3, {0, 0, 3}, {0, 0, 0}, 6, 1},
+    {2, 2, {2, 1}, {INT64_MIN, 17}, 6, 0},
+    {3, 3, {UINT32_MAX, UINT32_MAX, 6}, {0, 0, 0}, 6, 0},
+    {2, 2, {2, 2}, {2 * LIMIT + 1, 2 * LIMIT + 1}, 7, 1},
+    {3, 3, {1, 1, 2}, {5, 5, -2 * LIMIT - 1}, 7, 3},
+    {2, 2, {2, 2}, {0, INT64_MIN}, 7, 2},
+    {3, 3, {1, 1, 2}, {3, 3, 6}, 8, 2},
+    {3, 3, {1, 1, 2}, {1, 3, 6}, 8, 3},
+    {2, 2, {2, 2}, {2, 16}, 9, 2},
+    {1, 1, {4}, {18}, 9, 1},
+    {2, 2, {2, 2}, {1, 16}, 9, 4},
+};
+enum { LINES = sizeof lines / sizeof lines[0] };
+static int32_t series[MOST + 1] = {0, 0, 9, 9};
+
+/* minutes 4, 0 or 65,537 */
+static const size_t minutes[] = {4, 0, MOST + 1};
+
+/* each bit of a set is a fault, in the writer's order: 1, 2, 4, 3 in two places, the line's, 5 */
+static void writer_refusals(void)
+{
+    for (int set = 0; set < 1 << 6; set++)
+        for (int l = 0; l < LINES; l++) {
+            size_t size = 32 + 4 * 4 + 12 * lines[l].lengths;
+            i64 want = (i64)size;
+            if (set & 32)
+                want = refusal(5, 0);
+            if (lines[l].number)
+                want = refusal(lines[l].number, lines[l].place);
+            if (set & 16) {
+                series[3] = INT32_MIN;
+                want = refusal(3, 4);
+            }
+            if (set & 8) {
+                series[1] = LIMIT + 1;
+                want = refusal(3, 2);
+            }
+            if (set & 4)
+                want = refusal(4, 0);
+            if (set & 2)
+                want = refusal(2, 0);
+            if (set & 1)
+                want = refusal(1, 0);
+            size_t n = minutes[set & 1 ? 1 : set & 2], room = set & 32 ? size - 1 : size;
+            must(compare_write(series, n, set & 4 ? SMOOTHEST + 1 : 1, lines[l].length, lines[l].lengths, lines[l].total, lines[l].totals, room), want);
+            series[1] = 0;
+            series[3] = 9;
+        }
+}
+
+/* each bit of a set is a fault, in the reader's order */
+static void reader_refusals(void)
+{
+    static const struct {
+        i64 number, place;
+    } faults[] = {{10, 0}, {1, 0}, {2, 0}, {11, 4}, {12, 8}, {12, 12}, {12, 24}, {12, 28}, {4, 0}, {3, 3}, {0, 0}, {5, 0}};
+    enum { FAULTS = sizeof faults / sizeof faults[0] };
+    static Line line;
+    for (int set = 0; set < 1 << FAULTS; set += guard ? 1 : 37)
+        for (int l = set & 1 << 10 ? 2 : 0; l < (set & 1 << 10 ? LINES : 2); l++) {
+            if (lines[l].lengths != lines[l].totals)
+                continue;
+            line.n = lines[l].lengths;
+            memcpy(line.length, lines[l].length, sizeof lines[l].length);
+            memcpy(line.total, lines[l].total, sizeof lines[l].total);
+            series[2] = set & 1 << 9 ? -LIMIT - 1 : 9;
+            memset(sheet, 0, 100);
+            size_t n = 4, size = paper_sheet(sheet, series, n, set & 1 << 8 ? SMOOTHEST + 1 : 1, &line), handed_over = size;
+            series[2] = 9;
+            if (set & 1 << 7)
+                put(sheet + 28, 4, 1);
+            if (set & 1 << 6) { /* the field, or the bytes given */
+                if (l % 2)
+                    put(sheet + 24, 4, size + 1);
+                else
+                    handed_over = l % 4 ? size + 1 : size - 1;
+            }
+            if (set & 1 << 5)
+                put(sheet + 12, 4, 32);
+            if (set & 1 << 4)
+                put(sheet + 8, 4, 0);
+            if (set & 1 << 3)
+                put(sheet + 4, 4, n + 1);
+            if (set & 1 << 2)
+                put(sheet, 4, MOST + 1);
+            if (set & 1 << 1)
+                put(sheet, 4, 0);
+            if (set & 1)
+                handed_over = 31;
+            i64 want = (i64)line.n;
+            for (int f = FAULTS; f-- > 0;)
+                if (set & 1 << f)
+                    want = f == 10 ? refusal(lines[l].number, lines[l].place) : refusal(faults[f].number, faults[f].place);
+            int few = set & 1 << 11 ? 1 + l % 4 : 0;
+            must(compare_read(sheet, handed_over, (size_t[]){n - (few == 1), n - (few == 2), n - (few == 3), 3 - (few == 4)}), want);
+        }
+}
+
+static void chart_refusals(void)
+{
+    static const size_t asked[] = {0, 1, 2, 3, 4, 5, MOST + 1, SIZE_MAX};
+    for (int l = 1; l < LINES; l++)
+        for (int many = 0; many < 3; many++) {
+            i64 line = lines[l].number == 9 ? 0 : lines[l].number, shape = many == 1 ? refusal(1, 0) : many ? refusal(2, 0) : line ? refusal(line, lines[l].place) : 0;
+            for (size_t room = 0; room < 5; room++) {
+                i64 got = compare_segments(minutes[many], lines[l].length, lines[l].lengths, lines[l].total, lines[l].totals, (size_t[]){room, 4, 4});
+                must(got, shape ? shape : room < lines[l].lengths ? refusal(5, 0) : (i64)lines[l].lengths);
+                for (int a = 0; a < 8; a++) {
+                    got = compare_mark(minutes[many], lines[l].length, lines[l].lengths, lines[l].total, lines[l].totals, asked[a], room);
+                    must(got < 0 ? got : 0, shape ? shape : asked[a] < 1 || asked[a] > 4 ? refusal(13, 0) : room < 2 ? refusal(5, 0) : 0);
+                }
+            }
+        }
+}
+
+/* the examples of the paper's table that are not among those */
+static void paper_refusals(void)
+{
+    static const size_t two[] = {2, 2, 2, 3};
+    static const int32_t zeros[MOST + 1];
+    memset(sheet, 0, 100);
+    must(compare_read(sheet, 31, two), refusal(10, 0));
+    must(compare_read(sheet, 32, two), refusal(1, 0));
+    must(compare_write((int32_t[]){0, 16777217}, 2, 0, NULL, 0, NULL, 0, 40), refusal(3, 2));
+    must(compare_write((int32_t[]){7}, 1, 0, (uint32_t[]){0}, 1, (i64[]){7}, 1, 48), refusal(6, 1));
+    must(compare_write((int32_t[]){7}, 1, 0, (uint32_t[]){1}, 1, (i64[]){16777217}, 1, 48), refusal(7, 1));
+    must(compare_write((int32_t[]){3, 3}, 2, 0, (uint32_t[]){1, 1}, 2, (i64[]){3, 3}, 2, 64), refusal(8, 2));
+    must(compare_write((int32_t[]){0, 10}, 2, 1, (uint32_t[]){1, 1}, 2, (i64[]){2, 8}, 2, 64), refusal(9, 1));
+    must(compare_mark(2, (uint32_t[]){1, 1}, 2, (i64[]){1, 9}, 2, 3, 2), refusal(13, 0));
+    must(compare_read(sheet, paper_sheet(sheet, (int32_t[]){0, 10}, 2, 0, NULL), (size_t[]){1, 2, 2, 3}), refusal(5, 0));
+    put(sheet + 28, 4, 1);
+    must(compare_read(sheet, 40, two), refusal(12, 28));
+    /* 65,537 zeros, as a sheet */
+    memset(sheet, 0, sizeof sheet);
+    must(compare_read(sheet, paper_sheet(sheet, zeros, MOST + 1, 0, NULL), two), refusal(2, 0));
+}
+
+/* ---- long series: a segment a minute, few segments, one */
+static void long_series(void)
+{
+    static int32_t y[MOST];
+    static Line line;
+    for (int kind = 0; kind < 4; kind++) {
+        uint64_t lambda = (uint64_t[]){0, 100000, SMOOTHEST, 0}[kind];
+        for (size_t i = 0; i < MOST; i++)
+            switch (kind) {
+            case 0: y[i] = i % 2 ? LIMIT - (int32_t)(next() % 50) : (int32_t)(next() % 50) - LIMIT; break;
+            case 1: y[i] = (int32_t)(i / 5000 * 3000 + next() % 2001); break; /* steps */
+            case 2: y[i] = random_sample(&state, 3); break;
+            default: y[i] = (int32_t)(i * 256) - LIMIT; /* a ramp */
+            }
+        paper_line_long(y, MOST, lambda, &line);
+        must(kind == 1 ? line.n > 1 && line.n < 1000 : line.n == (kind == 2 ? 1 : MOST), 1);
+        everywhere(y, MOST, lambda, &line);
+        chart(MOST, &line, 16381);
+    }
+    for (int32_t k = -1; k <= 1; k++) {
+        y[0] = k * LIMIT;
+        line.n = line.length[0] = 1;
+        line.total[0] = y[0];
+        everywhere(y, 1, SMOOTHEST, &line);
+        chart(1, &line, 1);
+    }
+}
+
+/* ---- random sheets, and lists of any shape */
+static void random_lists(void)
+{
+    uint32_t length[6];
+    i64 total[6];
+    int32_t y[6];
+    size_t n = next() % 7, m = next() % 7, mt = next() % 8 ? m : next() % 7, left = n;
+    for (size_t i = 0; i < m; i++) {
+        length[i] = (uint32_t)(next() % 4 ? 1 : next() % 4);
+        if (i + 1 == m && next() % 8)
+            length[i] = (uint32_t)left;
+        left = left > length[i] ? left - length[i] : 0;
+    }
+    for (size_t i = 0; i < mt; i++) {
+        i64 most = (i64)(i < m ? length[i] : 1) * LIMIT, x = (i64)next();
+        switch (next() % 8) {
+        case 0: total[i] = (x % 2 ? most : -most) + (x % 41 == 0); break;
+        case 1: total[i] = x % (2 * most + 1) - most; break;
+        default: total[i] = x % 9 - 4;
+        }
+    }
+    for (size_t i = 0; i < n; i++)
+        y[i] = random_sample(&state, (int)(i % 4));
+    uint64_t lambda = next() % 4;
+    compare_write(y, n, lambda, length, m, total, mt, 32 + 4 * n + 12 * (next() % 7));
+    size_t room[3];
+    for (int i = 0; i < 3; i++)
+        room[i] = next() % 4 ? m + next() % 3 : next() % 7;
+    compare_segments(n, length, m, total, mt, room);
+    for (size_t k = 0; k <= n + 1; k++)
+        compare_mark(n, length, m, total, mt, k, next() % 8 ? 2 + next() % 3 : next() % 2);
+}
+
+static void random_sheets(void)
+{
+    static int32_t y[MOST];
+    static Line line;
+    size_t size = small_sheet(&state, sheet), n = size < 32 ? 0 : get(sheet, 4) % 64, room[4];
+    for (int i = 0; i < 4; i++)
+        room[i] = (i < 3 ? n : 3) + next() % 3;
+    compare_read(sheet, size, room);
+    for (int i = 0; i < 4; i++)
+        room[i] = next() % (i < 3 ? n + 2 : 5);
+    compare_read(sheet, size, room);
+    if (paper_read(sheet, size, y, &line) == 0) {
+        uint64_t lambda = get(sheet + 16, 8);
+        must(compare_write(y, n, lambda, line.length, line.n, line.total, line.n, size + next() % 3), (i64)size);
+        must(sheet_write(y, n, lambda, line.length, line.n, line.total, line.n, other, size), (i64)size);
+        if (memcmp(other, sheet, size))
+            fail("read and written, the sheet differs");
+        if (line.n > 0)
+            chart(n, &line, 1);
+    }
+    random_lists();
+}
+
+/* ---- the stack that the header names, with nothing below it */
+static ucontext_t here, there;
+
+static void on_stack(size_t bytes, void (*calls)(void))
+{
+    enum { PAGE = 4096 };
+    uint8_t *p = mmap(NULL, PAGE + bytes, PROT_READ | PROT_WRITE, MAP_PRIVATE | MAP_ANONYMOUS, -1, 0);
+    if (p == MAP_FAILED || mprotect(p, PAGE, PROT_NONE) || getcontext(&there)) {
+        printf("no stack to test with\n");
+        exit(1);
+    }
+    there.uc_stack.ss_sp = p + PAGE;
+    there.uc_stack.ss_size = bytes;
+    there.uc_link = &here;
+    makecontext(&there, calls, 0);
+    swapcontext(&here, &there);
+    munmap(p, PAGE + bytes);
+}
+
+static int32_t stack_y[MOST], stack_samples[MOST];
+static Line stack_line;
+static i64 stack_totals[MOST], answers[8];
+static uint32_t stack_lengths[MOST], stack_lasts[MOST];
+static double stack_levels[MOST];
+
+static void small_calls(void)
+{
+    answers[0] = series_line(stack_y, MOST, 50, stack_lengths, MOST, stack_totals, MOST);
+    answers[1] = series_balances(stack_y, MOST, 50, stack_totals, MOST);
+    answers[2] = series_check(stack_y, MOST, 50, stack_line.length, stack_line.n, stack_line.total, stack_line.n);
+    answers[3] = chart_segments(MOST, stack_line.length, stack_line.n, stack_line.total, stack_line.n, stack_lengths, MOST, stack_lasts, MOST, stack_levels, MOST);
+    answers[4] = chart_mark(MOST, stack_line.length, stack_line.n, stack_line.total, stack_line.n, MOST, stack_levels, 2);
+    answers[5] = sheet_write(stack_y, MOST, 50, stack_line.length, stack_line.n, stack_line.total, stack_line.n, sheet, SHEET);
+}
+
+static void large_calls(void)
+{
+    uint64_t fields[3];
+    answers[6] = sheet_read(sheet, (size_t)answers[5], stack_samples, MOST, stack_lengths, MOST, stack_totals, MOST, fields, 3);
+    put(sheet + 4, 4, 0);
+    put(sheet + 24, 4, 32 + 4 * MOST);
+    answers[7] = sheet_complete(sheet, 32 + 4 * MOST, other, SHEET);
+}
+
+static void stacks(void)
+{
+    for (size_t i = 0; i < MOST; i++)
+        stack_y[i] = random_sample(&state, 1);
+    paper_line_long(stack_y, MOST, 50, &stack_line);
+    on_stack(16384, small_calls);
+    on_stack((1 << 20) + 16384, large_calls);
+    i64 m = (i64)stack_line.n, size = 32 + 4 * MOST + 12 * m, want[] = {m, MOST, 0, m, 0, size, m, size};
+    for (int i = 0; i < 8; i++)
+        must(answers[i], want[i]);
+}
+
+int main(int argc, char **argv)
+{
+    unsigned long count = argc > 1 ? strtoul(argv[1], NULL, 10) : 40000;
+    if (argc > 2)
+        guard = strtoul(argv[2], NULL, 10);
+    known();
+    close_levels();
+    writer_refusals();
+    reader_refusals();
+    chart_refusals();
+    paper_refusals();
+    for (seed = 1; seed <= count; seed++) {
+        state = seed * 0x9e3779b97f4a7c15u;
+        random_sheets();
+    }
+    seed = state = 12345;
+    long_series();
+    if (guard)
+        stacks();
+    printf("reads %lu writes %lu charts %lu marks %lu completed %lu refused", reads, writes, segments, marks, completed);
+    for (int i = 1; i < 14; i++)
+        printf(" %d:%lu", i, numbers[i]);
+    printf(": all agree\n");
+    return 0;
+}
