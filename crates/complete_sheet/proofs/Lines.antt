@@ -19,7 +19,7 @@ use Rattle.sheet.specs.Complete.{Has}
 use Rattle.sheet.proofs.Judged.{line-few}
 use Rattle.complete_sheet.specs.Report.{line-text, Ready}
 
-pub take-refill : {A : Type 0} (new old : List A) → take (length new) (refill new old) ≡ new
+take-refill : {A : Type 0} (new old : List A) → take (length new) (refill new old) ≡ new
 unfolding refill
 take-refill new old = take-at new (drop (length new) old) (length new) refl
 

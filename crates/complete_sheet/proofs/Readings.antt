@@ -38,13 +38,13 @@ module _ (s : List ℕ) (ys : List ℤ) (ns : List ℕ) (ts : List ℤ) (f : Fie
   passes = passed (accepted-alike {y = fine} s) e .1
 
   -- what the reader gives, and the room that it found
-  pub record Given : Type 0 where
+  record Given : Type 0 where
     pub header : f ≡ fields s
     pub samples-room : minutes s ≤ length ys
     pub lengths-room : minutes s ≤ length ns
     pub totals-room : minutes s ≤ length ts
 
-  pub found : Given
+  found : Given
   found =
       let t = if-past _ never (passed (accepted-alike {y = given f} s) e .0) in
       let b = or-false _ _ (t .0) in

@@ -20,6 +20,7 @@ use Rattle.sheet.specs.HeadLaws.{length-as-in-table}
 use Rattle.sheet.specs.ListLaws.{length-records}
 use Rattle.sheet.specs.Read.{accepted, readOf}
 use Rattle.sheet.specs.Complete.{completeOf, completedAfter, fine}
+use Rattle.sheet.specs.declared.Fields.{Fields}
 use Rattle.sheet.proofs.Chains.{passed, stopped, accepted-alike}
 use Rattle.sheet.proofs.CompleteLaws.{Completed}
 use Rattle.sheet.proofs.CompleteLaws as CompleteLaws
@@ -31,7 +32,7 @@ module _ (s : List ℕ) where
   unfolding reportOf
   report-too-long h = rw (lt-ltb 16416 (length s) h)
 
-  by-reading : (answer : Answer _) → length s ≤ 16416 → readOf s no-samples no-lengths no-totals ≡ answer → reportOf s ≡ answer-text s answer
+  pub by-reading : (answer : Answer Fields) → length s ≤ 16416 → readOf s no-samples no-lengths no-totals ≡ answer → reportOf s ≡ answer-text s answer
   unfolding reportOf
   by-reading answer h e = rw (le-ltb 16416 (length s) h) (ap (answer-text s) e)
 

@@ -3,7 +3,6 @@ use mathlib.Core.Path.{_≡_, sym, ap, _∙_}
 use mathlib.Core.List.{List}
 use Prim.Native.Nat.{ℕ, _+_, _-_, _≤_, _<_}
 use native.Mathlib.Omega.{arith}
-use borrow.Author.Tests.{lt-ltb, le-ltb}
 use lib.ListN.{length, drop, length-append, length-drop}
 use lib.Seq.{length-take-le}
 use lib.IntN.{ℤ}
@@ -14,6 +13,7 @@ use Rattle.sheet.specs.Format.{samples}
 use Rattle.sheet.specs.Read.{readOf}
 use Rattle.sheet.specs.declared.Fields.{Fields}
 use Rattle.complete_sheet.specs.Report.{too-long, line-shown, refusal, answer-text, no-samples, no-lengths, no-totals, reportOf}
+use Rattle.complete_sheet.proofs.ReportLaws.{report-too-long, by-reading}
 
 -- l is s with text on its first bytes, which are r
 abbrev pub Begins : List ℕ → List ℕ → ℕ → List ℕ → Type 0
@@ -45,10 +45,8 @@ module _ (s out : List ℕ) (r : ℕ) (out′ : List ℕ) (same : length out′ 
   reported text e b = let c = counts out text r out′ same b in rw e (b .0, (c, b .1))
 
   pub long-shown : 16416 < length s → Begins out too-long r out′ → Reported
-  unfolding reportOf
-  long-shown h = reported too-long (rw (lt-ltb 16416 (length s) h))
+  long-shown h = reported too-long (report-too-long s h)
 
   pub short-shown : length s ≤ 16416 → (ys : List ℤ) (ns : List ℕ) (ts : List ℤ) → ys ≡ no-samples → ns ≡ no-lengths → ts ≡ no-totals
       → Begins out (answer-text s (readOf s ys ns ts)) r out′ → Reported
-  unfolding reportOf
-  short-shown h ys ns ts p q t = reported (answer-text s (readOf s ys ns ts)) (rw (le-ltb 16416 (length s) h, p, q, t))
+  short-shown h ys ns ts p q t = reported (answer-text s (readOf s ys ns ts)) (by-reading s (readOf s ys ns ts) h (rw (p, q, t)))
