@@ -1,2 +1,7 @@
--- What the functions' proofs share.
-pub mod Bounds
+-- What the functions' proofs share, and the laws of the report.
+pub mod Texts
+pub mod Rows
+pub mod Lines
+pub mod Readings
+pub mod Shown
+pub mod ReportLaws

@@ -1,120 +1,172 @@
 // Reads a sheet of up to 1,024 minutes from standard input and prints its line: the numbers of the header, then the first minute, the
 // length and the total of each segment. A line that the sheet lacks is drawn. A sheet sent back gets the number and the place.
-ghost use Prim.Native.Nat.{_≤_};
+ghost use mathlib.Core.Path.{_≡_};
+ghost use Prim.Native.Nat.{_+_, _*_, _≤_};
 ghost use lib.ListN.{length};
+ghost use lib.IntN.{pos};
+ghost use Rattle.optimality.specs.Machine.{plain-line};
+ghost use Rattle.codec.specs.Place.{overwrite};
+ghost use Rattle.sheet.specs.Complete.{Has};
+ghost use Rattle.sheet.specs.Read.{readOf};
+ghost use Rattle.io.specs.Counts.{Counts};
+ghost use Rattle.complete_sheet.specs.Report.{row, rows, heading, line-text, line-shown, refusal, answer-text, reportOf, Ready};
 use denoise::Drawn;
 use sheet::Fields;
 use sheet::Reading;
 
-fn put(text: &[u8]) {
-    io::write_all(1, text);
-}
-
-fn put_unsigned(n: u64) {
-    io::print_decimal(1, n);
-}
-
-fn put_signed(t: i64) {
-    let mut text = [0u8; 20];
-    let n = text::put_signed_decimal(&mut text, 0, t);
-    put(&text[..n]);
-}
-
-fn put_refusal(number: u32, place: usize) {
-    put(b"refused ");
-    put_unsigned(number as u64);
-    put(b" ");
-    put_unsigned(place as u64);
-    put(b"\n");
-}
-
-fn put_header(minutes: u32, smoothing: u64, segments: u32) {
-    put(b"minutes ");
-    put_unsigned(minutes as u64);
-    put(b" smoothing ");
-    put_unsigned(smoothing);
-    put(b" segments ");
-    put_unsigned(segments as u64);
-    put(b"\n");
-}
-
-fn put_segment(first: u64, length: u32, total: i64) {
-    put_unsigned(first);
-    put(b" ");
-    put_unsigned(length as u64);
-    put(b" ");
-    put_signed(total);
-    put(b"\n");
-}
-
-// A row for each segment.
-fn put_segments(lengths: &[u32], totals: &[i64])
-    requires { ⌜ length (now lengths) ≤ 65536 ⌝ }
-    requires { ⌜ length (now lengths) ≤ length (now totals) ⌝ }
+// One line for a segment, from at on. The result is the place after it.
+fn put_row(out: &mut [u8], at: usize, first: u64, minutes: u32, total: i64) -> usize
+    requires { ⌜ at + 63 ≤ length (now out) ⌝ }
+    ensures { λ r. ⌜ r ≡ at + length (row first minutes total) ⌝ }
+    ensures { λ r. ⌜ r ≤ at + 63 ⌝ }
+    ensures { λ _. ⌜ now (out .exit) ≡ overwrite (now (out .entry)) at (row first minutes total) ⌝ }
 {
+    let a = text::put_decimal(out, at, first);
+    let b = text::put_bytes(out, a, b" ");
+    let c = text::put_decimal(out, b, minutes as u64);
+    let d = text::put_bytes(out, c, b" ");
+    let e = text::put_signed_decimal(out, d, total);
+    text::put_bytes(out, e, b"\n")
+}
+
+// A row for each segment, the minutes counted from 1.
+fn put_rows(out: &mut [u8], at: usize, lengths: &[u32], totals: &[i64]) -> usize
+    requires { ⌜ length (now lengths) ≡ length (now totals) ⌝ }
+    requires { ⌜ length (now lengths) ≤ 65536 ⌝ }
+    requires { ⌜ at + 63 * length (now lengths) ≤ length (now out) ⌝ }
+    ensures { λ r. ⌜ r ≡ at + length (rows 1 (now (lengths .entry)) (now (totals .entry))) ⌝ }
+    ensures { λ r. ⌜ r ≤ at + 63 * length (now (lengths .entry)) ⌝ }
+    ensures { λ _. ⌜ now (out .exit) ≡ overwrite (now (out .entry)) at (rows 1 (now (lengths .entry)) (now (totals .entry))) ⌝ }
+{
+    let mut next = at;
     let mut first = 1u64;
     let mut k = 0;
     while k < lengths.len() {
         let n = lengths[k];
-        put_segment(first, n, totals[k]);
+        let t = totals[k];
+        next = put_row(out, next, first, n, t);
         first += n as u64;
         k += 1;
     }
+    next
 }
 
-// The line that the first entries of the two lists are.
-fn put_line(f: Fields, segments: u32, lengths: &[u32], totals: &[i64])
-    requires { ⌜ segments ≤ 65536 ⌝ }
-    requires { ⌜ segments ≤ length (now lengths) ⌝ }
-    requires { ⌜ segments ≤ length (now totals) ⌝ }
+// The line above the rows.
+fn put_heading(out: &mut [u8], minutes: u32, smoothing: u64, segments: usize) -> usize
+    requires { ⌜ 90 ≤ length (now out) ⌝ }
+    ensures { λ r. ⌜ r ≡ length (heading minutes smoothing segments) ⌝ }
+    ensures { λ r. ⌜ r ≤ 90 ⌝ }
+    ensures { λ _. ⌜ now (out .exit) ≡ overwrite (now (out .entry)) 0 (heading minutes smoothing segments) ⌝ }
 {
-    let m = segments as usize;
-    put_header(f.minutes, f.smoothing, segments);
-    put_segments(&lengths[..m], &totals[..m]);
+    let a = text::put_bytes(out, 0, b"minutes ");
+    let b = text::put_decimal(out, a, minutes as u64);
+    let c = text::put_bytes(out, b, b" smoothing ");
+    let d = text::put_decimal(out, c, smoothing);
+    let e = text::put_bytes(out, d, b" segments ");
+    let f = text::put_decimal(out, e, segments as u64);
+    text::put_bytes(out, f, b"\n")
 }
 
-// The sheet's own line, or the one that is drawn.
-fn finish(f: Fields, samples: &[i32], lengths: &mut [u32], totals: &mut [i64])
-    requires { ⌜ length (now samples) ≤ 65536 ⌝ }
-    requires { ⌜ f .segments ≤ length (now samples) ⌝ }
-    requires { ⌜ length (now samples) ≤ length (now lengths) ⌝ }
-    requires { ⌜ length (now samples) ≤ length (now totals) ⌝ }
+// A line of segments, whole.
+fn put_line(out: &mut [u8], f: Fields, lengths: &[u32], totals: &[i64]) -> usize
+    requires { ⌜ length (now lengths) ≡ length (now totals) ⌝ }
+    requires { ⌜ length (now lengths) ≤ 1024 ⌝ }
+    requires { ⌜ 65536 ≤ length (now out) ⌝ }
+    ensures { λ r. ⌜ r ≡ length (line-text (f .minutes) (f .smoothing) (now (lengths .entry)) (now (totals .entry))) ⌝ }
+    ensures { λ _. ⌜ now (out .exit) ≡ overwrite (now (out .entry)) 0 (line-text (f .minutes) (f .smoothing) (now (lengths .entry)) (now (totals .entry))) ⌝ }
+{
+    let next = put_heading(out, f.minutes, f.smoothing, lengths.len());
+    put_rows(out, next, lengths, totals)
+}
+
+fn put_refusal(out: &mut [u8], number: u32, place: usize) -> usize
+    requires { ⌜ 65536 ≤ length (now out) ⌝ }
+    ensures { λ r. ⌜ r ≡ length (refusal number place) ⌝ }
+    ensures { λ _. ⌜ now (out .exit) ≡ overwrite (now (out .entry)) 0 (refusal number place) ⌝ }
+{
+    let a = text::put_bytes(out, 0, b"refused ");
+    let b = text::put_decimal(out, a, number as u64);
+    let c = text::put_bytes(out, b, b" ");
+    let d = text::put_decimal(out, c, place as u64);
+    text::put_bytes(out, d, b"\n")
+}
+
+// The number of segments of the line that the first entries of the two lists then are: the sheet's own, or the one that is drawn.
+fn draw(f: Fields, samples: &[i32], lengths: &mut [u32], totals: &mut [i64]) -> usize
+    requires { ⌜ Ready (now samples) (f .smoothing) (f .segments) (now lengths) (now totals) ⌝ }
+    ensures { λ r. ⌜ Has (plain-line (pos (f .smoothing)) (now (samples .entry))) r (now (lengths .exit)) (now (totals .exit)) ⌝ }
 {
     if f.segments > 0 {
-        put_line(f, f.segments, lengths, totals);
-        return;
+        return f.segments as usize;
     }
     match denoise::line(samples, f.smoothing, lengths, totals) {
-        Drawn::Segments(m) => put_line(f, m, lengths, totals),
-        Drawn::Refused(number, place) => put_refusal(number, place),
+        Drawn::Segments(m) => m as usize,
+        Drawn::Refused(number, place) => 0,
     }
+}
+
+// With lists that are accepted.
+fn finish(
+    out: &mut [u8],
+    f: Fields,
+    samples: &[i32],
+    lengths: &mut [u32],
+    totals: &mut [i64],
+) -> usize
+    requires { ⌜ Ready (now samples) (f .smoothing) (f .segments) (now lengths) (now totals) ⌝ }
+    requires { ⌜ length (now samples) ≤ 1024 ⌝ }
+    requires { ⌜ 65536 ≤ length (now out) ⌝ }
+    ensures { λ r. ⌜ r ≡ length (line-shown (f .minutes) (f .smoothing) (now (samples .entry))) ⌝ }
+    ensures { λ _. ⌜ now (out .exit) ≡ overwrite (now (out .entry)) 0 (line-shown (f .minutes) (f .smoothing) (now (samples .entry))) ⌝ }
+{
+    let m = draw(f, samples, lengths, totals);
+    put_line(out, f, &lengths[..m], &totals[..m])
 }
 
 // With lists to work in.
-fn show_with(sheet: &[u8], samples: &mut [i32], lengths: &mut [u32], totals: &mut [i64]) {
+fn answer(
+    sheet: &[u8],
+    out: &mut [u8],
+    samples: &mut [i32],
+    lengths: &mut [u32],
+    totals: &mut [i64],
+) -> usize
+    requires { ⌜ 65536 ≤ length (now out) ⌝ }
+    requires { ⌜ length (now samples) ≤ 1024 ⌝ }
+    ensures { λ r. ⌜ r ≡ length (answer-text (now (sheet .entry)) (readOf (now (sheet .entry)) (now (samples .entry)) (now (lengths .entry)) (now (totals .entry)))) ⌝ }
+    ensures { λ _. ⌜ now (out .exit) ≡ overwrite (now (out .entry)) 0 (answer-text (now (sheet .entry)) (readOf (now (sheet .entry)) (now (samples .entry)) (now (lengths .entry)) (now (totals .entry)))) ⌝ }
+{
     match sheet::read(sheet, samples, lengths, totals) {
-        Reading::Refused(number, place) => put_refusal(number, place),
+        Reading::Refused(number, place) => put_refusal(out, number, place),
         Reading::Valid(f) => {
             let n = f.minutes as usize;
-            finish(f, &samples[..n], lengths, totals);
+            finish(out, f, &samples[..n], lengths, totals)
         }
     }
 }
 
-fn show(sheet: &[u8]) {
+// What the program prints for a sheet, from the start of `out`: a line above the rows of at most 90 bytes and at most 1,024 rows of at
+// most 63, or one line. The result is the number of bytes; later bytes stay.
+fn report(sheet: &[u8], out: &mut [u8]) -> usize
+    requires { ⌜ 65536 ≤ length (now out) ⌝ }
+    ensures { λ r. ⌜ r ≡ length (reportOf (now (sheet .entry))) ⌝ }
+    ensures { λ r. ⌜ Counts r (now (out .exit)) ⌝ }
+    ensures { λ _. ⌜ now (out .exit) ≡ overwrite (now (out .entry)) 0 (reportOf (now (sheet .entry))) ⌝ }
+{
+    if sheet.len() > 16416 {
+        return text::put_bytes(out, 0, b"too long\n");
+    }
     let mut samples = [0i32; 1024];
     let mut lengths = [0u32; 1024];
     let mut totals = [0i64; 1024];
-    show_with(sheet, &mut samples, &mut lengths, &mut totals);
+    answer(sheet, out, &mut samples, &mut lengths, &mut totals)
 }
 
 // The longest sheet of 1,024 minutes has 16,416 bytes.
 fn main() {
     let mut input = [0u8; 16417];
     let n = io::read_full(0, &mut input);
-    if n > 16416 {
-        put(b"too long\n");
-        return;
-    }
-    show(&input[..n]);
+    let mut out = [0u8; 65536];
+    let m = report(&input[..n], &mut out);
+    io::write_all(1, &out[..m]);
 }

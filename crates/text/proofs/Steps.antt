@@ -1,10 +1,13 @@
 -- Text written a part at a time, on lists, and the text of a signed number by its sign.
 use mathlib.Core.Path.{_≡_, refl, ap, _∙_}
 use mathlib.Core.Bool.{true, false}
-use mathlib.Core.List.{List, [], _∷_, _++_}
-use Prim.Native.Nat.{ℕ, _+_, _/_, _%_, _≤_, _<_}
+use mathlib.Core.List.{List, [], _∷_, _++_, append-nil}
+use Prim.Native.Nat.{ℕ, suc, _+_, _/_, _%_, _≤_, _<_}
+use native.Mathlib.Nat.{add-assoc, add-zero}
+use native.Mathlib.Numerals.{add-one}
 use native.Mathlib.Omega.{arith}
-use lib.ListN.{length, set, length-append}
+use lib.ListN.{length, drop, getD, set, length-append, length-drop, take-append-drop}
+use lib.Seq.{drop-cons}
 use lib.IntN.{ℤ, pos, natAbs}
 use lib.Signed.{ltZ, natAbs-le}
 use mir.Syntax.{w64}
@@ -50,6 +53,17 @@ module _ (s : List ℕ) (at : ℕ) where
     pub put-more : 10 ≤ n → (next : ℕ) (l : List ℕ) → Put s at (decimal (n / 10)) next l
         → Put s at (decimal n) (next + 1) (set l next (48 + n % 10))
     put-more h next l done = rw (more-digits n h) (put-before (decimal (n / 10)) next l (48 + n % 10) done (omega (arith, length-more n h)))
+
+-- ---- bytes one by one: byte i, then what is left, until there is nothing
+pub byte-more : (s : List ℕ) (at i : ℕ) (text : List ℕ) → i < length text → at + length text ≤ length s
+    → overwrite (set s (at + i) (getD text i 0)) (at + (i + 1)) (drop (i + 1) text) ≡ overwrite s (at + i) (drop i text)
+byte-more s at i text h room =
+    rw (overwrite-one s (at + i) (getD text i 0) (omega arith), ← add-assoc at i 1, add-one i, drop-cons text i 0 h)
+    (overwrite-append s (at + i) (getD text i 0 ∷ []) (omega arith) (drop (suc i) text) (simp length-drop (omega arith)))
+
+pub overwrite-none : (s : List ℕ) (at : ℕ) → overwrite s at [] ≡ s
+unfolding overwrite
+overwrite-none s at = rw (append-nil, add-zero, take-append-drop)
 
 -- ---- a signed number, by the size that magnitude found and the machine's test of its sign
 module _ (x : ℤ) (f : SFits w64 x) (size : ℕ) (e : size ≡ natAbs (toZ w64 (ofZ w64 x))) where

@@ -1,5 +1,5 @@
-// Decimal text of numbers, at a place in a slice of bytes. These functions are for the crates above, which see to the room
-// that each requires; what users call stands in sheet.
+// Text at a place in a slice of bytes: numbers in decimal, and bytes as they are. These functions are for the crates above,
+// which see to the room that each requires; what users call stands in sheet.
 ghost use mathlib.Core.Path.{_≡_};
 ghost use Prim.Native.Nat.{_+_, _≤_, _<_};
 ghost use lib.ListN.{length};
@@ -59,4 +59,18 @@ pub fn put_signed_decimal(out: &mut [u8], at: usize, x: i64) -> usize
         return put_digits(out, at + 1, size);
     }
     put_digits(out, at, size)
+}
+
+// Bytes as they are, from at on. The result is the place after them.
+pub fn put_bytes(out: &mut [u8], at: usize, text: &[u8]) -> usize
+    requires { ⌜ at + length (now text) ≤ length (now out) ⌝ }
+    ensures { λ r. ⌜ r ≡ at + length (now (text .entry)) ⌝ }
+    ensures { λ _. ⌜ now (out .exit) ≡ overwrite (now (out .entry)) at (now (text .entry)) ⌝ }
+{
+    let mut i = 0;
+    while i < text.len() {
+        out[at + i] = text[i];
+        i += 1;
+    }
+    at + i
 }

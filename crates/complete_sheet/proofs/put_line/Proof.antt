@@ -1,23 +1,15 @@
--- `complete_sheet::put_line` is safe: the lists have the line's entries.
+-- `complete_sheet::put_line` meets its contract.
 use borrow.Author.Needs.{needs}
-use mathlib.Core.Path.{sym}
-use native.Mathlib.Omega.{arith}
-use lib.Seq.{length-take-le}
+use Rattle.complete_sheet.proofs.Texts.{put-line}
 use Rattle.complete_sheet.proofs.put_line.Statement.{statement}
 use Rattle.complete_sheet.proofs.put_line.Tie as tie
 
-lengths-part : tie.Need-slice-aggregate-put-segments
-lengths-part c = let s = c .before .before .before in sym (length-take-le _ _ (s .pre .1 .0))
-
-totals-part : tie.Need-slice-aggregate-put-segments-2
-totals-part c = let s = c .before .before .before .before in sym (length-take-le _ _ (s .pre .1 .1))
-
-put-segments-requires : tie.Need-put-segments-requires
-put-segments-requires c κs =
-    let s = c .before .before .before .before in
-    let a = length-take-le (s .args .segments) (s .args .lengths .now) (s .pre .1 .0) in
-    let b = length-take-le (s .args .segments) (s .args .totals .now) (s .pre .1 .1) in
-    (omega (arith, a), omega (arith, a, b))
+returns : tie.Need-returns
+returns c =
+    let p = c .before .before in
+    let h = p .before .before .before .before in
+    let s = h .before .before .before .before in
+    put-line (s .args .out .now) (s .args .f .minutes) (s .args .f .smoothing) (s .args .lengths .now) (s .args .totals .now) (s .pre .1 .0) (s .pre .1 .1) (h .put-heading .ensures) (p .put-rows .ensures)
 
 pub put-line-spec : {M : Type 1} → statement M
-put-line-spec = tie.close (tie.spec (λ c κs. search needs) lengths-part totals-part put-segments-requires (λ c. search needs))
+put-line-spec = tie.close (tie.spec (λ c κs. search needs) (λ c κs. search needs) (λ c. search needs) returns)
