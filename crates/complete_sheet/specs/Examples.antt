@@ -13,18 +13,18 @@ use Rattle.sheet.specs.Format.{records, header, sample-bytes, segment-bytes, sh
 use Rattle.complete_sheet.specs.Report.{heading, row, rows, line-text, refusal, answer-text, reportOf}
 
 -- the samples (0, 10), L = 1, no line
-pub example : List ℕ
+abbrev pub example : List ℕ
 example = sheet-bytes (pos 0 ∷ pos 10 ∷ []) 1 [] []
 
 -- "minutes 2 smoothing 1 segments 2", "1 1 1" and "2 1 9", three lines
-pub printed : List ℕ
+abbrev pub printed : List ℕ
 printed =
     (109 ∷ 105 ∷ 110 ∷ 117 ∷ 116 ∷ 101 ∷ 115 ∷ 32 ∷ 50 ∷ 32 ∷ 115 ∷ 109 ∷ 111 ∷ 111 ∷ 116 ∷ 104 ∷ 105 ∷ 110 ∷ 103 ∷ 32 ∷ 49 ∷ 32 ∷ 115 ∷ 101 ∷ 103 ∷ 109 ∷ 101 ∷ 110 ∷ 116 ∷ 115 ∷ 32 ∷ 50 ∷ 10 ∷ [])
     ++ (49 ∷ 32 ∷ 49 ∷ 32 ∷ 49 ∷ 10 ∷ [])
     ++ (50 ∷ 32 ∷ 49 ∷ 32 ∷ 57 ∷ 10 ∷ [])
 
 pub example-printed : reportOf example ≡ printed
-unfolding example printed reportOf answer-text line-text heading row rows decimal digits signedDecimal sheet-bytes header sample-bytes segment-bytes encode unsigned records getUnsigned bytesAt decode signed first-from line run step
+unfolding reportOf answer-text line-text heading row rows decimal digits signedDecimal sheet-bytes header sample-bytes segment-bytes encode unsigned records getUnsigned bytesAt decode signed first-from line run step
 example-printed = refl
 
 -- 31 zero bytes: "refused 10 0"

@@ -1,5 +1,6 @@
 // Reads a sheet of up to 1,024 minutes from standard input and prints its line: the numbers of the header, then the first minute, the
 // length and the total of each segment. A line that the sheet lacks is drawn. A sheet sent back gets the number and the place.
+// `report` composes the whole text, and its contract says every byte of it; `main` hands it on.
 ghost use mathlib.Core.Path.{_≡_};
 ghost use Prim.Native.Nat.{_+_, _*_, _≤_};
 ghost use lib.ListN.{length};
