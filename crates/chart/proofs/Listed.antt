@@ -9,7 +9,7 @@ use lib.Seq.{drop-cons, sets}
 use lib.IntN.{ℤ, pos}
 use Rattle.level.specs.declared.Level.{Level}
 use Rattle.denoise.specs.Limits.{refill}
-use Rattle.denoise.proofs.Written.{sets-refill}
+use Rattle.denoise.proofs.Refill.{sets-refill}
 use Rattle.chart.specs.Drawable.{nth}
 use Rattle.chart.specs.Whole.{after, segments-from, parts}
 use Rattle.chart.specs.declared.ChartSegment.{ChartSegment}

@@ -1,7 +1,6 @@
 -- What the functions' proofs share, and the laws of the report.
 pub mod Texts
 pub mod Rows
-pub mod Lines
 pub mod Readings
 pub mod Shown
 pub mod ReportLaws

@@ -18,12 +18,11 @@ use Rattle.sheet.specs.HeadLaws.{InOrder, or-false}
 use Rattle.sheet.specs.HeadLaws as HeadLaws
 use Rattle.sheet.specs.ListLaws.{length-records}
 use Rattle.sheet.specs.Read.{accepted, readOf, samplesAfter, lengthsAfter, totalsAfter}
-use Rattle.sheet.specs.Complete.{fine}
+use Rattle.sheet.specs.Complete.{fine, Ready}
 use Rattle.sheet.specs.declared.Fields.{Fields}
 use Rattle.sheet.proofs.Chains.{same-given, passed, accepted-alike}
 use Rattle.sheet.proofs.Judged.{Judged, judged}
-use Rattle.complete_sheet.specs.Report.{Ready}
-use Rattle.complete_sheet.proofs.Lines.{length-refill}
+use Rattle.sheet.proofs.OwnLine.{ready}
 
 -- a sheet that is accepted
 module _ (s : List ℕ) (e : accepted s fine ≡ fine) where
@@ -67,28 +66,18 @@ module _ (s : List ℕ) (ys : List ℤ) (ns : List ℕ) (ts : List ℤ) (f : Fie
         rw (q, found .header) (take-at (samples s) _ (minutes s) (length-records 4 read-sample _ _))
 
     module _ (ns′ : List ℕ) (ts′ : List ℤ) (q : ns′ ≡ lengthsAfter s ys ns ts) (r : ts′ ≡ totalsAfter s ys ns ts) where
-      ready : Ready (samples s) (smoothing s) (segment-count s) (refill (lengths s) ns) (refill (totals s) ts)
+      own-line : Ready (samples s) (smoothing s) (segment-count s) (refill (lengths s) ns) (refill (totals s) ts)
       unfolding refill
-      ready =
+      own-line =
           let j = judgement s passes in
-          let N : length (samples s) ≡ minutes s = length-records 4 read-sample _ _ in
           let M : length (lengths s) ≡ segment-count s = length-records 12 read-length _ _ in
+          let N : length (samples s) ≡ minutes s = length-records 4 read-sample _ _ in
           let g = found in
-          let few = in-order s passes .fewer in
-          let same = j .same in
-          record {
-            limited = j .limited;
-            lengths-room = omega (arith, length-refill (lengths s) ns (omega arith), N);
-            totals-room = omega (arith, length-refill (totals s) ts (omega arith), N);
-            own =
-                λ h.
-                ⊎-elim (λ z. absurd (omega arith))
-                (λ z. (sym M ∙ ap length (z .0) ∙ length-map (plain-line (pos (smoothing s)) (samples s)) _, (take-at (lengths s) _ (segment-count s) M ∙ z .0, take-at (totals s) _ (segment-count s) (omega arith) ∙ z .1)))
-                (j .line);
-          }
+          rw (M, sym (j .same) ∙ M)
+          (ready (samples s) (smoothing s) (segment-count s) (lengths s) (totals s) ns ts j M (omega (arith, N, g .lengths-room)) (omega (arith, N, g .totals-room)))
 
       pub ready-read : Ready (take (f .minutes) ys′) (f .smoothing) (f .segments) ns′ ts′
       ready-read =
           let q′ : ns′ ≡ refill (lengths s) ns = q ∙ rw e in
           let r′ : ts′ ≡ refill (totals s) ts = r ∙ rw e in
-          rw (samples-read, found .header, q′, r′) ready
+          rw (samples-read, found .header, q′, r′) own-line

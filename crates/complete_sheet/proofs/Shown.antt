@@ -3,21 +3,29 @@ use mathlib.Core.Path.{_≡_, sym, ap, _∙_}
 use mathlib.Core.List.{List}
 use Prim.Native.Nat.{ℕ, _+_, _-_, _≤_, _<_}
 use native.Mathlib.Omega.{arith}
-use lib.ListN.{length, drop, length-append, length-drop}
+use lib.ListN.{length, take, drop, length-append, length-drop}
 use lib.Seq.{length-take-le}
 use lib.IntN.{ℤ}
+use Rattle.optimality.specs.Segments.{Segment}
+use Rattle.optimality.specs.Plain.{lens, totals}
 use Rattle.codec.specs.Place.{overwrite}
 use Rattle.level.specs.Answer.{Answer, refused, given}
 use Rattle.io.specs.Counts.{Counts}
 use Rattle.sheet.specs.Format.{samples}
 use Rattle.sheet.specs.Read.{readOf}
+use Rattle.sheet.specs.Complete.{Has}
 use Rattle.sheet.specs.declared.Fields.{Fields}
-use Rattle.complete_sheet.specs.Report.{too-long, line-shown, refusal, answer-text, no-samples, no-lengths, no-totals, reportOf}
+use Rattle.complete_sheet.specs.Report.{too-long, line-text, line-shown, refusal, answer-text, no-samples, no-lengths, no-totals, reportOf}
 use Rattle.complete_sheet.proofs.ReportLaws.{report-too-long, by-reading}
 
 -- l is s with text on its first bytes, which are r
 abbrev pub Begins : List ℕ → List ℕ → ℕ → List ℕ → Type 0
 Begins s text r l = (r ≡ length text) × (l ≡ overwrite s 0 text)
+
+-- the line that the lists have
+pub shown : {l : List Segment} {m : ℕ} {ns : List ℕ} {ts : List ℤ} → Has l m ns ts → (minutes smoothing : ℕ) {r : ℕ} (s : List ℕ) {s′ : List ℕ}
+    → Begins s (line-text minutes smoothing (take m ns) (take m ts)) r s′ → Begins s (line-text minutes smoothing (lens l) (totals l)) r s′
+shown h minutes smoothing s b = rw (h .lengths, h .totals) at b
 
 module _ (s : List ℕ) (answer : Answer Fields) (out : List ℕ) {out′ : List ℕ} {r : ℕ} where
   pub refused-shown : (number place : ℕ) → answer ≡ refused number place → Begins out (refusal number place) r out′ → Begins out (answer-text s answer) r out′

@@ -92,11 +92,3 @@ no-totals = replicate 1024 (pos 0)
 -- no sheet of 1,024 minutes is longer than 16,416 bytes
 unfoldable pub reportOf : List ℕ → List ℕ
 reportOf s = cond (ltb 16416 (length s)) too-long (answer-text s (readOf s no-samples no-lengths no-totals))
-
--- ---- what the program's lists hold before the line is asked for: a series within the limits, room for its line, and where m segments were
--- filed the line already
-pub record Ready (ys : List ℤ) (L m : ℕ) (ns : List ℕ) (ts : List ℤ) : Type 0 where
-  pub limited : in-limits ys L fine ≡ fine
-  pub lengths-room : length ys ≤ length ns
-  pub totals-room : length ys ≤ length ts
-  pub own : 0 < m → (m ≡ length (plain-line (pos L) ys)) × ((take m ns ≡ lens (plain-line (pos L) ys)) × (take m ts ≡ totals (plain-line (pos L) ys)))

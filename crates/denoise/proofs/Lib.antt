@@ -5,6 +5,7 @@ pub mod Refusals
 pub mod Admitted
 pub mod Room
 pub mod Turn
+pub mod Refill
 pub mod Written
 pub mod Filling
 pub mod Tame

@@ -20,7 +20,8 @@ use Rattle.denoise.specs.declared.steps.Run.{Run}
 use Rattle.denoise.specs.declared.steps.Mark.{Mark}
 use Rattle.denoise.specs.declared.steps.Piece.{Piece}
 use Rattle.denoise.proofs.Turn.{Goes, begins}
-use Rattle.denoise.proofs.Written.{whole, sets-refill}
+use Rattle.denoise.proofs.Refill.{sets-refill}
+use Rattle.denoise.proofs.Written.{whole}
 use Rattle.denoise.proofs.Tame.{Tame, line-tame}
 
 -- ---- lengths

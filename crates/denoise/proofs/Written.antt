@@ -6,7 +6,7 @@ use native.Mathlib.Numerals.{add-one}
 use native.Mathlib.Nat.{zero-add}
 use Prim.Native.Nat.{ℕ, _+_, _<_, _≤_}
 use lib.ListN.{length, set, length-set, length-map}
-use lib.Seq.{sets, sets-eq}
+use lib.Seq.{sets}
 use lib.IntN.{ℤ, pos}
 use Rattle.optimality.specs.Segments.{Segment}
 use Rattle.optimality.specs.Machine.{begin, plain-line}
@@ -15,13 +15,9 @@ use Rattle.denoise.specs.Limits.{refill}
 use Rattle.denoise.specs.Run.{Within, Good, Emits, Stops, dataOf, stateOf, segmentOf, rest, len-of, total-of}
 use Rattle.denoise.specs.declared.steps.Run.{Run}
 use Rattle.denoise.specs.declared.steps.Piece.{Piece}
+use Rattle.denoise.proofs.Refill.{sets-refill}
 use Rattle.denoise.proofs.Room.{right}
 use Rattle.denoise.proofs.Turn.{Goes, begins}
-
--- as many stores as there is room for
-pub sets-refill : {A : Type 0} (new old : List A) → length new ≤ length old → sets old 0 new ≡ refill new old
-unfolding refill
-sets-refill new old h = sets-eq new old 0 (rw zero-add h) ∙ rw zero-add
 
 module _ (ys : List ℤ) (smoothing : ℕ) where
   abbrev line : List Segment

@@ -15,6 +15,7 @@ use Rattle.level.specs.Answer.{Answer, refused, given}
 use Rattle.denoise.specs.Limits.{in-limits, refill}
 use Rattle.denoise.specs.Line.{lineOf, lengthsOf, totalsOf}
 use Rattle.denoise.proofs.Admitted.{within, passed}
+use Rattle.denoise.proofs.Refill.{take-refill, length-refill}
 use Rattle.sheet.specs.Answer.{fields}
 use Rattle.sheet.specs.Format.{minutes, segment-count, smoothing, samples, read-sample, read-length, size, sheet-bytes}
 use Rattle.sheet.specs.Format as Format
@@ -25,62 +26,65 @@ use Rattle.sheet.specs.Complete.{finishOf, finishedAfter, completeOf, co
 use Rattle.sheet.specs.declared.Fields.{Fields}
 use Rattle.sheet.proofs.Judged.{line-few, Judged, judged}
 
-take-refill : {A : Type 0} (new old : List A) → take (length new) (refill new old) ≡ new
-unfolding refill
-take-refill new old = take-at new (drop (length new) old) (length new) refl
-
-length-refill : {A : Type 0} (new old : List A) → length new ≤ length old → length (refill new old) ≡ length old
-unfolding refill
-length-refill new old h = length-append new (drop (length new) old) ∙ simp length-drop (omega arith)
-
-module _ (ys : List ℤ) (L : ℕ) (ns : List ℕ) (ts : List ℤ) (ok : in-limits ys L fine ≡ fine) (rn : 65536 ≤ length ns) (rt : 65536 ≤ length ts) where
+module _ (ys : List ℤ) (L m : ℕ) (ns : List ℕ) (ts : List ℤ) (ready : Ready ys L m ns ts) where
   abbrev l : List Segment
   l = plain-line (pos L) ys
 
   few : length ys ≤ 65536
-  few = within ys L ok .limited .minutes
+  few = within ys L (ready .limited) .limited .minutes
 
-  some-few : length l ≤ length ys
-  some-few = line-few ys L (within ys L ok .some)
+  pub fewer : length l ≤ length ys
+  fewer = line-few ys L (within ys L (ready .limited) .some)
 
   pub draws : lineOf ys L ns ts ≡ given (length l)
-  draws = passed ys L _ ok ∙ rw (le-ltb (length ns) (length ys) (omega (arith, few)), le-ltb (length ts) (length ys) (omega (arith, few)))
+  draws = passed ys L _ (ready .limited) ∙ rw (le-ltb (length ns) (length ys) (ready .lengths-room), le-ltb (length ts) (length ys) (ready .totals-room))
 
-  pub drawn-line : (m : ℕ) (ns′ : List ℕ) (ts′ : List ℤ) → m ≡ length l → ns′ ≡ lengthsOf ys L ns ts → ts′ ≡ totalsOf ys L ns ts → Has l m ns′ ts′
-  drawn-line m ns′ ts′ e p q =
+  pub drawn-line : (k : ℕ) (ns′ : List ℕ) (ts′ : List ℤ) → k ≡ length l → ns′ ≡ lengthsOf ys L ns ts → ts′ ≡ totalsOf ys L ns ts → Has l k ns′ ts′
+  drawn-line k ns′ ts′ e p q =
       let p′ : ns′ ≡ refill (lens l) ns = p ∙ rw draws in
       let q′ : ts′ ≡ refill (totals l) ts = q ∙ rw draws in
       let a : length (lens l) ≡ length l = length-map l _ in
       let b : length (totals l) ≡ length l = length-map l _ in
+      let rn = ready .lengths-room in
+      let rt = ready .totals-room in
       record {
         count = e;
-        few = omega (arith, some-few, few);
+        few = omega (arith, fewer, few);
         lengths = rw (p′, e, ← a) (take-refill (lens l) ns);
         totals = rw (q′, e, ← b) (take-refill (totals l) ts);
-        lengths-room = rw p′ (omega (arith, length-refill (lens l) ns (omega (arith, a, some-few, few)), some-few, few));
-        totals-room = rw q′ (omega (arith, length-refill (totals l) ts (omega (arith, b, some-few, few)), some-few, few));
+        lengths-room = rw p′ (omega (arith, length-refill (lens l) ns (omega (arith, a, fewer)), fewer));
+        totals-room = rw q′ (omega (arith, length-refill (totals l) ts (omega (arith, b, fewer)), fewer));
       }
 
-pub filed-line : (ys : List ℤ) (L m : ℕ) (ns : List ℕ) (ts : List ℤ) → Ready ys L m ns ts → 0 < m → Has (plain-line (pos L) ys) m ns ts
-filed-line ys L m ns ts r h =
-    let o = r .own h in
-    let w = within ys L (r .limited) in
-    let k : m ≤ 65536 = omega (arith, o .0, line-few ys L (w .some), w .limited .minutes) in
-    record { count = o .0; few = k; lengths = o .1 .0; totals = o .1 .1; lengths-room = omega (arith, r .lengths-room); totals-room = omega (arith, r .totals-room) }
-
-long-after : {A : Type 0} (new old : List A) (m : ℕ) → length new ≡ m → m ≤ length old → 65536 ≤ length old → 65536 ≤ length (new ++ drop m old)
-long-after new old m e h l = omega (arith, length-append new (drop m old), length-drop m old)
+  pub filed-line : 0 < m → Has l m ns ts
+  filed-line h =
+      let o = ready .own h in
+      let rn = ready .lengths-room in
+      let rt = ready .totals-room in
+      record {
+        count = o .0;
+        few = omega (arith, o .0, fewer, few);
+        lengths = o .1 .0;
+        totals = o .1 .1;
+        lengths-room = omega (arith, o .0, fewer);
+        totals-room = omega (arith, o .0, fewer);
+      }
 
 -- lists that were loaded and passed, with what they had after them
-pub ready : (ys : List ℤ) (L m : ℕ) (ns : List ℕ) (ts : List ℤ) (rn : List ℕ) (rt : List ℤ) → Judged ys L ns ts → length ns ≡ m
-    → 65536 ≤ length rn → 65536 ≤ length rt → Ready ys L m (ns ++ drop m rn) (ts ++ drop m rt)
-ready ys L m ns ts rn rt j e hn ht =
-    let k : m ≤ 65536 = omega (arith, j .few, j .fewer) in
+pub ready : (ys : List ℤ) (L m : ℕ) (ns : List ℕ) (ts : List ℤ) (ns₀ : List ℕ) (ts₀ : List ℤ) → Judged ys L ns ts → length ns ≡ m
+    → length ys ≤ length ns₀ → length ys ≤ length ts₀ → Ready ys L m (ns ++ drop m ns₀) (ts ++ drop m ts₀)
+ready ys L m ns ts ns₀ ts₀ j e hn ht =
+    let fewer = j .fewer in
+    let same = j .same in
     record {
       limited = j .limited;
-      lengths-room = long-after ns rn m e (omega arith) hn;
-      totals-room = long-after ts rt m (omega (arith, j .same)) (omega arith) ht;
-      own = λ h. ⊎-elim (λ z. absurd (omega arith)) (λ z. (sym e ∙ ap length (z .0) ∙ length-map (plain-line (pos L) ys) _, (take-at ns _ m e ∙ z .0, take-at ts _ m (omega (arith, j .same)) ∙ z .1))) (j .line);
+      lengths-room = omega (arith, length-append ns (drop m ns₀), length-drop m ns₀);
+      totals-room = omega (arith, length-append ts (drop m ts₀), length-drop m ts₀);
+      own =
+          λ h.
+          ⊎-elim (λ z. absurd (omega arith))
+          (λ z. (sym e ∙ ap length (z .0) ∙ length-map (plain-line (pos L) ys) _, (take-at ns _ m e ∙ z .0, take-at ts _ m (omega arith) ∙ z .1)))
+          (j .line);
     }
 
 -- ---- the end of a completing call
@@ -109,8 +113,10 @@ module _ (s : List ℕ) (f : Fields) (ys : List ℤ) (ys₀ : List ℤ) (e : f �
   pub ready-loaded : (ns ns₀ : List ℕ) (ts ts₀ : List ℤ) → 65536 ≤ length ns₀ → 65536 ≤ length ts₀ → in-limits (samples s) (smoothing s) (filed (samples s) (smoothing s) (Format.lengths s) (Format.totals s) fine) ≡ fine
       → ns ≡ Format.lengths s ++ drop (segment-count s) ns₀ → ts ≡ Format.totals s ++ drop (segment-count s) ts₀ → Ready (take (f .minutes) ys) (f .smoothing) (f .segments) ns ts
   ready-loaded ns ns₀ ts ts₀ hn ht a en et =
+      let j = judged (samples s) (smoothing s) (Format.lengths s) (Format.totals s) a in
+      let few = j .few in
       rw (samples-loaded, e, en, et)
-      (ready (samples s) (smoothing s) (segment-count s) (Format.lengths s) (Format.totals s) ns₀ ts₀ (judged (samples s) (smoothing s) (Format.lengths s) (Format.totals s) a) (length-records 12 read-length _ _) hn ht)
+      (ready (samples s) (smoothing s) (segment-count s) (Format.lengths s) (Format.totals s) ns₀ ts₀ j (length-records 12 read-length _ _) (omega arith) (omega arith))
 
   pub completes : (out out′ : List ℕ) (r : Answer ℕ) → completeOf s out ≡ finishOf (samples s) (smoothing s) out
       → (r ≡ finishOf (take (f .minutes) ys) (f .smoothing) out) × (out′ ≡ finishedAfter (take (f .minutes) ys) (f .smoothing) out) → (r ≡ completeOf s out) × (out′ ≡ completedAfter s out)

@@ -7,7 +7,7 @@ use Rattle.optimality.specs.Machine.{plain-line}
 use Rattle.level.specs.Answer.{given}
 use Rattle.denoise.specs.Line.{drawn}
 use Rattle.denoise.proofs.Refusals.{never}
-use Rattle.complete_sheet.proofs.Lines.{draws, drawn-line, filed-line}
+use Rattle.sheet.proofs.OwnLine.{draws, drawn-line, filed-line}
 use Rattle.complete_sheet.proofs.draw.Statement.{statement}
 use Rattle.complete_sheet.proofs.draw.Tie as tie
 

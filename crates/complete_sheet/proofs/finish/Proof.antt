@@ -3,7 +3,8 @@ use borrow.Author.Needs.{needs}
 use mathlib.Core.Path.{sym}
 use native.Mathlib.Omega.{arith}
 use lib.Seq.{length-take-le}
-use Rattle.complete_sheet.proofs.Lines.{fewer, shown}
+use Rattle.sheet.proofs.OwnLine.{fewer}
+use Rattle.complete_sheet.proofs.Shown.{shown}
 use Rattle.complete_sheet.proofs.finish.Statement.{statement}
 use Rattle.complete_sheet.proofs.finish.Tie as tie
 

@@ -19,14 +19,14 @@ answer : (c : tie.After-line) → let s = c .before .before .before .before .bef
     drawn (c .line .result) ≡ given (length (plain-line (pos (s .args .smoothing)) (s .args .ys .now)))
 answer c =
     let s = c .before .before .before .before .before in
-    c .line .ensures .0 ∙ draws (s .args .ys .now) (s .args .smoothing) (s .args .ns .now) (s .args .ts .now) (s .pre .limited) (s .pre .lengths-room) (s .pre .totals-room)
+    c .line .ensures .0 ∙ draws (s .args .ys .now) (s .args .smoothing) (s .args .segments) (s .args .ns .now) (s .args .ts .now) (s .pre)
 
 returns-2 : tie.Need-returns-2
 returns-2 c =
     let l = c .before .before .before .before .before .before in
     let s = l .before .before .before .before .before in
     let d = sym (ap drawn (c .before .m .given .1)) ∙ answer l in
-    drawn-line (s .args .ys .now) (s .args .smoothing) (s .args .ns .now) (s .args .ts .now) (s .pre .limited) (s .pre .lengths-room) (s .pre .totals-room)
+    drawn-line (s .args .ys .now) (s .args .smoothing) (s .args .segments) (s .args .ns .now) (s .args .ts .now) (s .pre)
     (c .before .m .given .0 .0) (l .line .last .1 .1 .0) (l .line .last .1 .1 .1 .0) (cc) (l .line .ensures .1 .0) (l .line .ensures .1 .1)
 
 returns-3 : tie.Need-returns-3
