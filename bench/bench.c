@@ -105,17 +105,18 @@ static void judge_line(int method, int64_t m)
         differ(methods[method]);
 }
 
-static void line_row(const char *name)
+/* by the first `methods` of the methods */
+static void line_row(const char *name, int methods)
 {
     double best[METHODS];
     for (size_t i = 0; i < n; i++)
         yd[i] = y[i];
-    measure(METHODS, draw, judge_line, best);
+    measure(methods, draw, judge_line, best);
     print_name(name);
-    for (int i = 0; i < METHODS; i++)
+    for (int i = 0; i < methods; i++)
         print_time(best[i]);
-    printf(" ");
-    for (int i = CLANG; i < METHODS; i++)
+    printf("%*s", 7 * (METHODS - methods) + 1, "");
+    for (int i = CLANG; i < methods; i++)
         print_ratio(best[OURS] / best[i]);
     printf("\n");
     fflush(stdout);
@@ -212,21 +213,19 @@ static void worst(void)
 static void noise_rows(void)
 {
     noise((uint64_t)1 << 40);
-    line_row("noise, L = 2^40");
+    line_row("noise, L = 2^40", METHODS);
     noise(5000);
-    line_row("noise, L = 5000");
+    line_row("noise, L = 5000", METHODS);
     noise(100);
-    line_row("noise, L = 100");
+    line_row("noise, L = 100", METHODS);
 }
 
 static void ramp_rows(void)
 {
     ramp();
-    line_row("ramp");
-    if (n == 44640) /* to save time */
-        return;
+    line_row("ramp", METHODS);
     worst();
-    line_row("worst ramp");
+    line_row("worst ramp", n == 1440 ? METHODS : GCC); /* to save time */
 }
 
 int main(void)
