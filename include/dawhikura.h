@@ -25,6 +25,10 @@
 #include <stddef.h>
 #include <stdint.h>
 
+#ifdef __cplusplus
+extern "C" {
+#endif
+
 /* The line of a series. The first entries of both lists are its segments; the result is their number. The lists need as many entries as there are
  * samples. Refusals 1, 2, 4, 3, 5. */
 int64_t series_line(const int32_t *samples, size_t minutes, uint64_t smoothing, uint32_t *lengths, size_t lengths_len, int64_t *totals, size_t totals_len);
@@ -62,5 +66,9 @@ int64_t sheet_write(const int32_t *samples, size_t minutes, uint64_t smoothing, 
 /* Completes a sheet: writes the same sheet with its line; one that has its line comes out unchanged. The result is the number of bytes written.
  * Refusals 10, 1, 2, 11, 12, 4, 3, then 6 to 9 where a line is filed, then 5 for a short output. */
 int64_t sheet_complete(const uint8_t *sheet, size_t sheet_len, uint8_t *out, size_t out_len);
+
+#ifdef __cplusplus
+}
+#endif
 
 #endif
