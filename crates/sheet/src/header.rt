@@ -9,6 +9,7 @@ ghost use Rattle.sheet.specs.Format.{minutes, segment-count, header};
 ghost use Rattle.sheet.specs.Head.{wrong-field, well-headed};
 use super::Fields;
 use super::Reading;
+use super::numbers;
 
 // 10, 1, 2, 11 and 12, in this order.
 pub(crate) fn read_header(sheet: &[u8]) -> Reading
@@ -17,14 +18,14 @@ pub(crate) fn read_header(sheet: &[u8]) -> Reading
     if sheet.len() < 32 {
         return Reading::Refused(10, 0);
     }
-    let n = codec::get_u32(sheet, 0);
+    let n = numbers::get_u32(sheet, 0);
     if n == 0 {
         return Reading::Refused(1, 0);
     }
     if n > 65_536 {
         return Reading::Refused(2, 0);
     }
-    let m = codec::get_u32(sheet, 4);
+    let m = numbers::get_u32(sheet, 4);
     if m > n {
         return Reading::Refused(11, 4);
     }
@@ -40,24 +41,24 @@ fn table_fields(sheet: &[u8], n: u32, m: u32) -> Reading
     requires { ⌜ m ≤ 65536 ⌝ }
     ensures { λ r. ⌜ headed r ≡ refuse-at (wrong-field (now (sheet .entry))) 12 (given (fields (now (sheet .entry)))) ⌝ }
 {
-    if codec::get_u32(sheet, 8) != 32 {
+    if numbers::get_u32(sheet, 8) != 32 {
         return Reading::Refused(12, 8);
     }
     let line = 32 + 4 * n;
-    if codec::get_u32(sheet, 12) != line {
+    if numbers::get_u32(sheet, 12) != line {
         return Reading::Refused(12, 12);
     }
-    let size = codec::get_u32(sheet, 24);
+    let size = numbers::get_u32(sheet, 24);
     if size != line + 12 * m {
         return Reading::Refused(12, 24);
     }
     if size as usize != sheet.len() {
         return Reading::Refused(12, 24);
     }
-    if codec::get_u32(sheet, 28) != 0 {
+    if numbers::get_u32(sheet, 28) != 0 {
         return Reading::Refused(12, 28);
     }
-    let smoothing = codec::get_u64(sheet, 16);
+    let smoothing = numbers::get_u64(sheet, 16);
     Reading::Valid(Fields {
         minutes: n,
         segments: m,
@@ -73,11 +74,11 @@ pub(crate) fn write_header(out: &mut [u8], n: u32, m: u32, smoothing: u64)
     ensures { λ _. ⌜ now (out .exit) ≡ overwrite (now (out .entry)) 0 (header n m smoothing) ⌝ }
 {
     let line = 32 + 4 * n;
-    codec::put_u32(out, 0, n);
-    codec::put_u32(out, 4, m);
-    codec::put_u32(out, 8, 32);
-    codec::put_u32(out, 12, line);
-    codec::put_u64(out, 16, smoothing);
-    codec::put_u32(out, 24, line + 12 * m);
-    codec::put_u32(out, 28, 0);
+    numbers::put_u32(out, 0, n);
+    numbers::put_u32(out, 4, m);
+    numbers::put_u32(out, 8, 32);
+    numbers::put_u32(out, 12, line);
+    numbers::put_u64(out, 16, smoothing);
+    numbers::put_u32(out, 24, line + 12 * m);
+    numbers::put_u32(out, 28, 0);
 }

@@ -17,6 +17,7 @@ mod completing;
 mod header;
 mod lists;
 mod loading;
+mod numbers;
 
 use denoise::Checked;
 

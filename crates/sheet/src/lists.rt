@@ -5,6 +5,7 @@ ghost use Prim.Native.Nat.{_+_, _*_, _≤_};
 ghost use lib.ListN.{length, drop};
 ghost use Rattle.codec.specs.Place.{overwrite};
 ghost use Rattle.sheet.specs.Format.{records, read-sample, read-length, read-total, line-offset, sample-bytes, segment-bytes};
+use super::numbers;
 
 // The n samples of a sheet, into the first n entries of `out`; the others stay.
 pub(crate) fn read_samples(sheet: &[u8], n: usize, out: &mut [i32])
@@ -14,7 +15,7 @@ pub(crate) fn read_samples(sheet: &[u8], n: usize, out: &mut [i32])
 {
     let mut i = 0;
     while i < n {
-        let sample = codec::get_i32(sheet, 32 + 4 * i);
+        let sample = numbers::get_i32(sheet, 32 + 4 * i);
         out[i] = sample;
         i += 1;
     }
@@ -36,8 +37,8 @@ pub(crate) fn read_segments(
 {
     let mut i = 0;
     while i < m {
-        let length = codec::get_u32(sheet, at + 12 * i);
-        let total = codec::get_i64(sheet, at + 12 * i + 4);
+        let length = numbers::get_u32(sheet, at + 12 * i);
+        let total = numbers::get_i64(sheet, at + 12 * i + 4);
         lengths[i] = length;
         totals[i] = total;
         i += 1;
@@ -52,7 +53,7 @@ pub(crate) fn write_samples(samples: &[i32], out: &mut [u8], at: usize)
     let mut i = 0;
     while i < samples.len() {
         let sample = samples[i];
-        codec::put_i32(out, at + 4 * i, sample);
+        numbers::put_i32(out, at + 4 * i, sample);
         i += 1;
     }
 }
@@ -66,8 +67,8 @@ pub(crate) fn write_segments(lengths: &[u32], totals: &[i64], out: &mut [u8], at
     let mut i = 0;
     while i < lengths.len() {
         let total = totals[i];
-        codec::put_u32(out, at + 12 * i, lengths[i]);
-        codec::put_i64(out, at + 12 * i + 4, total);
+        numbers::put_u32(out, at + 12 * i, lengths[i]);
+        numbers::put_i64(out, at + 12 * i + 4, total);
         i += 1;
     }
 }
