@@ -1,9 +1,10 @@
 -- Text written a part at a time.
-use mathlib.Core.Path.{_≡_, ap, _∙_}
+use mathlib.Core.Path.{_≡_, sym, ap, _∙_}
 use mathlib.Core.List.{List, _++_}
 use Prim.Native.Nat.{ℕ, _+_, _*_, _≤_}
 use native.Mathlib.Omega.{arith}
-use lib.ListN.{length, length-append}
+use lib.ListN.{length, take, drop, length-append}
+use lib.Seq.{take-at}
 use lib.IntN.{ℤ}
 use Rattle.codec.specs.Place.{overwrite}
 use Rattle.codec.specs.PlaceLaws.{overwrite-append}
@@ -15,6 +16,12 @@ pub record Put (s : List ℕ) (at k : ℕ) (text : List ℕ) (next : ℕ) (l : L
   pub place : next ≡ at + length text
   pub most : next ≤ at + k
   pub bytes : l ≡ overwrite s at text
+
+-- the characters of a number, copied from the start of a list that has them
+pub copied : (s : List ℕ) (at : ℕ) (text d d′ : List ℕ) (k r : ℕ) (l : List ℕ) → k ≡ length text → d′ ≡ overwrite d 0 text
+    → (r ≡ at + length (take k d′)) × (l ≡ overwrite s at (take k d′)) → (r ≡ at + length text) × (l ≡ overwrite s at text)
+unfolding overwrite
+copied s at text d d′ k r l e f p = rw (f, take-at text (drop (0 + length text) d) k (sym e)) at p
 
 -- one text, then another
 pub then : {s : List ℕ} {at k : ℕ} {text : List ℕ} {next : ℕ} {l : List ℕ} {j : ℕ} {more : List ℕ} {next′ : ℕ} {l′ : List ℕ}
@@ -34,7 +41,7 @@ then {s} {at} {k} {text} {next} {l} {j} {more} {next′} {l′} room p q =
           ∙ overwrite-append s at text (omega arith) more (omega arith);
     }
 
--- what `text::put_decimal` and `text::put_signed_decimal` ensure, and what `text::put_bytes` ensures
+-- what `put_decimal` and `put_signed_decimal` ensure, and what `put_bytes` ensures
 abbrev pub Number : List ℕ → ℕ → List ℕ → ℕ → List ℕ → Type 0
 Number s at text next l = (next ≡ at + length text) × ((next ≤ at + 20) × (l ≡ overwrite s at text))
 

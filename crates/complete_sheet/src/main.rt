@@ -7,6 +7,7 @@ ghost use lib.ListN.{length};
 ghost use lib.IntN.{pos};
 ghost use Rattle.optimality.specs.Machine.{plain-line};
 ghost use Rattle.codec.specs.Place.{overwrite};
+ghost use Rattle.text.specs.Decimal.{decimal, signedDecimal};
 ghost use Rattle.sheet.specs.Complete.{Ready, Has};
 ghost use Rattle.sheet.specs.Read.{readOf};
 ghost use Rattle.io.specs.Counts.{Counts};
@@ -15,6 +16,44 @@ use denoise::Drawn;
 use sheet::Fields;
 use sheet::Reading;
 
+// Bytes as they are, from at on. The result is the place after them.
+fn put_bytes(out: &mut [u8], at: usize, text: &[u8]) -> usize
+    requires { ⌜ at + length (now text) ≤ length (now out) ⌝ }
+    ensures { λ r. ⌜ r ≡ at + length (now (text .entry)) ⌝ }
+    ensures { λ _. ⌜ now (out .exit) ≡ overwrite (now (out .entry)) at (now (text .entry)) ⌝ }
+{
+    let mut i = 0;
+    while i < text.len() {
+        out[at + i] = text[i];
+        i += 1;
+    }
+    at + i
+}
+
+// n in decimal from at on. The result is the place after it.
+fn put_decimal(out: &mut [u8], at: usize, n: u64) -> usize
+    requires { ⌜ at + 20 ≤ length (now out) ⌝ }
+    ensures { λ r. ⌜ r ≡ at + length (decimal n) ⌝ }
+    ensures { λ r. ⌜ r ≤ at + 20 ⌝ }
+    ensures { λ _. ⌜ now (out .exit) ≡ overwrite (now (out .entry)) at (decimal n) ⌝ }
+{
+    let mut digits = [0u8; 20];
+    let k = text::decimal(n, &mut digits);
+    put_bytes(out, at, &digits[..k])
+}
+
+// x in decimal, with its sign where it is negative, from at on. The result is the place after it.
+fn put_signed_decimal(out: &mut [u8], at: usize, x: i64) -> usize
+    requires { ⌜ at + 20 ≤ length (now out) ⌝ }
+    ensures { λ r. ⌜ r ≡ at + length (signedDecimal x) ⌝ }
+    ensures { λ r. ⌜ r ≤ at + 20 ⌝ }
+    ensures { λ _. ⌜ now (out .exit) ≡ overwrite (now (out .entry)) at (signedDecimal x) ⌝ }
+{
+    let mut digits = [0u8; 20];
+    let k = text::signed_decimal(x, &mut digits);
+    put_bytes(out, at, &digits[..k])
+}
+
 // One line for a segment, from at on. The result is the place after it.
 fn put_row(out: &mut [u8], at: usize, first: u64, minutes: u32, total: i64) -> usize
     requires { ⌜ at + 63 ≤ length (now out) ⌝ }
@@ -22,12 +61,12 @@ fn put_row(out: &mut [u8], at: usize, first: u64, minutes: u32, total: i64) -> u
     ensures { λ r. ⌜ r ≤ at + 63 ⌝ }
     ensures { λ _. ⌜ now (out .exit) ≡ overwrite (now (out .entry)) at (row first minutes total) ⌝ }
 {
-    let a = text::put_decimal(out, at, first);
-    let b = text::put_bytes(out, a, b" ");
-    let c = text::put_decimal(out, b, minutes as u64);
-    let d = text::put_bytes(out, c, b" ");
-    let e = text::put_signed_decimal(out, d, total);
-    text::put_bytes(out, e, b"\n")
+    let a = put_decimal(out, at, first);
+    let b = put_bytes(out, a, b" ");
+    let c = put_decimal(out, b, minutes as u64);
+    let d = put_bytes(out, c, b" ");
+    let e = put_signed_decimal(out, d, total);
+    put_bytes(out, e, b"\n")
 }
 
 // A row for each segment, the minutes counted from 1.
@@ -59,13 +98,13 @@ fn put_heading(out: &mut [u8], minutes: u32, smoothing: u64, segments: usize) ->
     ensures { λ r. ⌜ r ≤ 90 ⌝ }
     ensures { λ _. ⌜ now (out .exit) ≡ overwrite (now (out .entry)) 0 (heading minutes smoothing segments) ⌝ }
 {
-    let a = text::put_bytes(out, 0, b"minutes ");
-    let b = text::put_decimal(out, a, minutes as u64);
-    let c = text::put_bytes(out, b, b" smoothing ");
-    let d = text::put_decimal(out, c, smoothing);
-    let e = text::put_bytes(out, d, b" segments ");
-    let f = text::put_decimal(out, e, segments as u64);
-    text::put_bytes(out, f, b"\n")
+    let a = put_bytes(out, 0, b"minutes ");
+    let b = put_decimal(out, a, minutes as u64);
+    let c = put_bytes(out, b, b" smoothing ");
+    let d = put_decimal(out, c, smoothing);
+    let e = put_bytes(out, d, b" segments ");
+    let f = put_decimal(out, e, segments as u64);
+    put_bytes(out, f, b"\n")
 }
 
 // A line of segments, whole.
@@ -85,11 +124,11 @@ fn put_refusal(out: &mut [u8], number: u32, place: usize) -> usize
     ensures { λ r. ⌜ r ≡ length (refusal number place) ⌝ }
     ensures { λ _. ⌜ now (out .exit) ≡ overwrite (now (out .entry)) 0 (refusal number place) ⌝ }
 {
-    let a = text::put_bytes(out, 0, b"refused ");
-    let b = text::put_decimal(out, a, number as u64);
-    let c = text::put_bytes(out, b, b" ");
-    let d = text::put_decimal(out, c, place as u64);
-    text::put_bytes(out, d, b"\n")
+    let a = put_bytes(out, 0, b"refused ");
+    let b = put_decimal(out, a, number as u64);
+    let c = put_bytes(out, b, b" ");
+    let d = put_decimal(out, c, place as u64);
+    put_bytes(out, d, b"\n")
 }
 
 // The number of segments of the line that the first entries of the two lists then are: the sheet's own, or the one that is drawn.
@@ -155,7 +194,7 @@ fn report(sheet: &[u8], out: &mut [u8]) -> usize
     ensures { λ _. ⌜ now (out .exit) ≡ overwrite (now (out .entry)) 0 (reportOf (now (sheet .entry))) ⌝ }
 {
     if sheet.len() > 16416 {
-        return text::put_bytes(out, 0, b"too long\n");
+        return put_bytes(out, 0, b"too long\n");
     }
     let mut samples = [0i32; 1024];
     let mut lengths = [0u32; 1024];

@@ -10,7 +10,7 @@ pub fn put_unsigned(n: u64) {
 
 pub fn put_signed(t: i64) {
     let mut text = [0u8; 20];
-    let n = text::put_signed_decimal(&mut text, 0, t);
+    let n = text::signed_decimal(t, &mut text);
     put(&text[..n]);
 }
 

@@ -23,6 +23,10 @@ use Rattle.text.specs.Laws.{one-digit, more-digits, length-more, length-
 abbrev pub Put : List ℕ → ℕ → List ℕ → ℕ → List ℕ → Type 0
 Put s at text next l = (next ≡ at + length text) × (l ≡ overwrite s at text)
 
+-- text at the start is there whole
+pub whole : (s text l : List ℕ) → l ≡ overwrite s 0 text → length text ≤ length s → length text ≤ length l
+whole s text l e room = omega (arith, ap length e ∙ length-overwrite s 0 text (omega arith))
+
 module _ (s : List ℕ) (at : ℕ) where
   -- one character, then text
   pub put-after : (v : ℕ) (text : List ℕ) (next : ℕ) (l : List ℕ) → Put (set s at v) (at + 1) text next l

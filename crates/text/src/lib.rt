@@ -1,5 +1,4 @@
-// Text at a place in a slice of bytes: numbers in decimal, and bytes as they are. These functions are for the crates above,
-// which see to the room that each requires; what users call stands in sheet.
+// Numbers in decimal. A number of 64 bits has at most 20 characters.
 ghost use mathlib.Core.Path.{_≡_};
 ghost use Prim.Native.Nat.{_+_, _≤_, _<_};
 ghost use lib.ListN.{length};
@@ -29,14 +28,14 @@ fn put_digits(out: &mut [u8], at: usize, n: u64) -> usize
     last + 1
 }
 
-// n in decimal from at on. The result is the place after it.
-pub fn put_decimal(out: &mut [u8], at: usize, n: u64) -> usize
-    requires { ⌜ at + 20 ≤ length (now out) ⌝ }
-    ensures { λ r. ⌜ r ≡ at + length (decimal n) ⌝ }
-    ensures { λ r. ⌜ r ≤ at + 20 ⌝ }
-    ensures { λ _. ⌜ now (out .exit) ≡ overwrite (now (out .entry)) at (decimal n) ⌝ }
+// n in decimal, from the start of `out`. The result is the number of its digits; later bytes stay.
+pub fn decimal(n: u64, out: &mut [u8; 20]) -> usize
+    ensures { λ r. ⌜ r ≡ length (decimal n) ⌝ }
+    ensures { λ r. ⌜ r ≤ 20 ⌝ }
+    ensures { λ r. ⌜ r ≤ length (now (out .exit)) ⌝ }
+    ensures { λ _. ⌜ now (out .exit) ≡ overwrite (now (out .entry)) 0 (decimal n) ⌝ }
 {
-    put_digits(out, at, n)
+    put_digits(out, 0, n)
 }
 
 // The size of x, also of the smallest i64.
@@ -46,31 +45,17 @@ fn magnitude(x: i64) -> u64
     if x < 0 { (!x as u64) + 1 } else { x as u64 }
 }
 
-// x in decimal from at on, with its sign where it is negative. The result is the place after it.
-pub fn put_signed_decimal(out: &mut [u8], at: usize, x: i64) -> usize
-    requires { ⌜ at + 20 ≤ length (now out) ⌝ }
-    ensures { λ r. ⌜ r ≡ at + length (signedDecimal x) ⌝ }
-    ensures { λ r. ⌜ r ≤ at + 20 ⌝ }
-    ensures { λ _. ⌜ now (out .exit) ≡ overwrite (now (out .entry)) at (signedDecimal x) ⌝ }
+// x in decimal, with its sign where it is negative, from the start of `out`. The result is the number of its characters; later bytes stay.
+pub fn signed_decimal(x: i64, out: &mut [u8; 20]) -> usize
+    ensures { λ r. ⌜ r ≡ length (signedDecimal x) ⌝ }
+    ensures { λ r. ⌜ r ≤ 20 ⌝ }
+    ensures { λ r. ⌜ r ≤ length (now (out .exit)) ⌝ }
+    ensures { λ _. ⌜ now (out .exit) ≡ overwrite (now (out .entry)) 0 (signedDecimal x) ⌝ }
 {
     let size = magnitude(x);
     if x < 0 {
-        out[at] = b'-';
-        return put_digits(out, at + 1, size);
+        out[0] = b'-';
+        return put_digits(out, 1, size);
     }
-    put_digits(out, at, size)
-}
-
-// Bytes as they are, from at on. The result is the place after them.
-pub fn put_bytes(out: &mut [u8], at: usize, text: &[u8]) -> usize
-    requires { ⌜ at + length (now text) ≤ length (now out) ⌝ }
-    ensures { λ r. ⌜ r ≡ at + length (now (text .entry)) ⌝ }
-    ensures { λ _. ⌜ now (out .exit) ≡ overwrite (now (out .entry)) at (now (text .entry)) ⌝ }
-{
-    let mut i = 0;
-    while i < text.len() {
-        out[at + i] = text[i];
-        i += 1;
-    }
-    at + i
+    put_digits(out, 0, size)
 }

@@ -5,9 +5,9 @@ use native.Mathlib.Nat.{add-zero}
 use native.Mathlib.Omega.{arith}
 use lib.ListN.{length, drop, length-set, drop-of-length-le}
 use Rattle.codec.specs.Place.{overwrite}
 use Rattle.text.proofs.Steps.{byte-more, overwrite-none}
-use Rattle.text.proofs.put_bytes.Statement.{statement}
-use Rattle.text.proofs.put_bytes.Tie as tie
+use Rattle.complete_sheet.proofs.put_bytes.Statement.{statement}
+use Rattle.complete_sheet.proofs.put_bytes.Tie as tie
 
 abbrev Inv-loop : tie.InvT-loop
 Inv-loop out₀ at text i₀ out i =
