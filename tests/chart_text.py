@@ -7,10 +7,10 @@
 Nothing here is taken from the library: minutes, kinds and rounding are computed with Python's whole numbers and fractions.
 """
 import struct
-import sys
 from fractions import Fraction
 from math import gcd
-from pathlib import Path
+
+from stored import store
 
 TENTHS = 16777216
 SMALL = [(1, 7), (4, -6), (3, 10), (6, 0), (2, -3), (4, 1)]
@@ -89,15 +89,7 @@ def main():
         f"// A line of {len(SMALL)} segments and {sum(l for l, t in SMALL)} minutes.\n{consts('SMALL', SMALL)}\n"
         f"// Two levels that plot alike, in either order.\n{consts('RISING', rising)}\n{consts('FALLING', falling)}"
     )
-    crate = Path(__file__).resolve().parent.parent / "crates" / "chart_text"
-    good = True
-    for path, text in ((crate / "src" / "lines.rt", lines), (crate / "stdout", "".join(r + "\n" for r in rows))):
-        if "--check" in sys.argv:
-            good &= path.read_text() == text
-        else:
-            path.write_text(text)
-    print(f"{len(rows)} rows" + ("" if good else ": the files differ"))
-    sys.exit(0 if good else 1)
+    store("chart_text", {"src/lines.rt": lines, "stdout": "".join(r + "\n" for r in rows)}, f"{len(rows)} rows")
 
 
 main()

@@ -7,10 +7,10 @@
 Nothing here is taken from the library: limits, order and rounding are computed with Python's whole numbers and fractions.
 """
 import struct
-import sys
 from fractions import Fraction
 from math import inf, nextafter
-from pathlib import Path
+
+from stored import store
 
 MINUTES, TENTHS = 65536, 16777216
 
@@ -114,15 +114,7 @@ def main():
         f"pub const TOTALS: [i64; {2 * n}] = [\n{listing(totals)}];\n"
     )
     out = "".join(line(a, b) + "\n" for a, b in table)
-    crate = Path(__file__).resolve().parent.parent / "crates" / "level_values"
-    good = True
-    for path, text in ((crate / "src" / "vectors.rt", vectors), (crate / "stdout", out)):
-        if "--check" in sys.argv:
-            good &= path.read_text() == text
-        else:
-            path.write_text(text)
-    print(f"{n} rows" + ("" if good else ": the files differ"))
-    sys.exit(0 if good else 1)
+    store("level_values", {"src/vectors.rt": vectors, "stdout": out}, f"{n} rows")
 
 
 main()

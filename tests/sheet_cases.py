@@ -7,10 +7,10 @@
 Nothing here is taken from the library. The line of a series is found by trying all ways to cut it into segments: with each step up or
 down, conditions (6) and (7) fix the balance at each cut, and so the totals; one cut alone meets them with neighbours unequal.
 """
-import sys
 from fractions import Fraction
 from itertools import product
-from pathlib import Path
+
+from stored import store
 
 TENTHS, SMOOTH, MINUTES = 16777216, 2**40, 65536
 LIST, OUT, FILL, BYTE = 16, 320, 77, 85
@@ -307,15 +307,7 @@ def main():
         listing("BYTES", "u8", list(data)),
     ]
     out = "".join(show(i, *c) for i, c in enumerate(table))
-    crate = Path(__file__).resolve().parent.parent / "crates" / "sheet_cases"
-    good = True
-    for path, text in ((crate / "src" / "vectors.rt", "\n".join(parts)), (crate / "stdout", out)):
-        if "--check" in sys.argv:
-            good &= path.read_text() == text
-        else:
-            path.write_text(text)
-    print(f"{len(table)} cases, {len(data)} bytes" + ("" if good else ": the files differ"))
-    sys.exit(0 if good else 1)
+    store("sheet_cases", {"src/vectors.rt": "\n".join(parts), "stdout": out}, f"{len(table)} cases, {len(data)} bytes")
 
 
 main()

@@ -14,7 +14,7 @@ use super::steps::Next;
 use super::steps::Piece;
 
 // The line where nothing is refused.
-pub fn draw(samples: &[i32], smoothing: u64, lengths: &mut [u32], totals: &mut [i64]) -> u32
+pub(crate) fn draw(samples: &[i32], smoothing: u64, lengths: &mut [u32], totals: &mut [i64]) -> u32
     requires { ⌜ Within (now samples) smoothing ⌝ }
     requires { ⌜ length (now samples) ≤ length (now lengths) ⌝ }
     requires { ⌜ length (now samples) ≤ length (now totals) ⌝ }

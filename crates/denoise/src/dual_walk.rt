@@ -24,7 +24,7 @@ pub struct Dual {
 }
 
 // The dual along the segment t after the segment s.
-pub fn follow(samples: &[i32], smoothing: u64, d: Dual, s: Level, t: Level) -> Dual
+pub(crate) fn follow(samples: &[i32], smoothing: u64, d: Dual, s: Level, t: Level) -> Dual
     ensures { λ r. ⌜ r ≡ followedOf smoothing (now (samples .entry)) d s t ⌝ }
 {
     let n = samples.len();
@@ -196,7 +196,7 @@ fn fail(d: Dual) -> Dual
 }
 
 // 9: the end's dual is 0.
-pub fn settle(d: Dual) -> Checked
+pub(crate) fn settle(d: Dual) -> Checked
     ensures { λ r. ⌜ checked r ≡ settledOf d ⌝ }
 {
     if d.stop > 0 {

@@ -10,7 +10,7 @@ ghost use Rattle.denoise.specs.Check.{checked};
 use super::Checked;
 
 // 3, for one sample.
-pub fn bad(samples: &[i32], k: usize) -> bool
+pub(crate) fn bad(samples: &[i32], k: usize) -> bool
     requires { ⌜ k < length (now samples) ⌝ }
     ensures { λ r. ⌜ r ≡ bad-sample (getD (now (samples .entry)) k (pos 0)) ⌝ }
 {
@@ -22,7 +22,7 @@ pub fn bad(samples: &[i32], k: usize) -> bool
 }
 
 // The first minute after `at` with a sample beyond the limits, or 0.
-pub fn bad_from(samples: &[i32], at: usize) -> usize
+pub(crate) fn bad_from(samples: &[i32], at: usize) -> usize
     ensures { λ r. ⌜ place-of r ≡ first-from bad-sample (suc at) (drop at (now (samples .entry))) ⌝ }
 {
     let mut k = at;
@@ -51,7 +51,7 @@ fn tame(samples: &[i32]) -> bool
 }
 
 // 1, 2, 4 and 3.
-pub fn limits(samples: &[i32], smoothing: u64) -> Checked
+pub(crate) fn limits(samples: &[i32], smoothing: u64) -> Checked
     ensures { λ r. ⌜ checked r ≡ in-limits (now (samples .entry)) smoothing (given tt) ⌝ }
 {
     if samples.len() == 0 {

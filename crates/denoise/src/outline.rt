@@ -23,7 +23,7 @@ pub struct Outline {
 }
 
 // Of no segment. A length of 0 is no level's.
-pub fn start() -> Outline
+pub(crate) fn start() -> Outline
     ensures { λ r. ⌜ r ≡ begin ⌝ }
 {
     Outline {
@@ -39,7 +39,7 @@ pub fn start() -> Outline
 }
 
 // With one segment more.
-pub fn join(o: Outline, t: Level, place: usize) -> Outline
+pub(crate) fn join(o: Outline, t: Level, place: usize) -> Outline
     ensures { λ r. ⌜ r ≡ joined o t place ⌝ }
 {
     let last = o.last;
@@ -56,7 +56,7 @@ pub fn join(o: Outline, t: Level, place: usize) -> Outline
     }
 }
 
-pub fn whole(lengths: &[u32], totals: &[i64]) -> Outline
+pub(crate) fn whole(lengths: &[u32], totals: &[i64]) -> Outline
     requires { ⌜ length (now lengths) ≡ length (now totals) ⌝ }
     ensures { λ r. ⌜ r ≡ outlineOf begin 1 (now (lengths .entry)) (now (totals .entry)) ⌝ }
 {
@@ -72,7 +72,7 @@ pub fn whole(lengths: &[u32], totals: &[i64]) -> Outline
 }
 
 // 6, 7 and 8, for a series of n minutes.
-pub fn verdict(n: usize, o: Outline) -> Checked
+pub(crate) fn verdict(n: usize, o: Outline) -> Checked
     ensures { λ r. ⌜ checked r ≡ verdictOf n o (given tt) ⌝ }
 {
     if o.zero > 0 {

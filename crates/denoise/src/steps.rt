@@ -95,7 +95,7 @@ fn ahead(samples: &[i32], smoothing: u64, s: Slope) -> Tube
 }
 
 // Step 1, and the restart of the others: a segment begins at a mark.
-pub fn begin(samples: &[i32], smoothing: u64, m: Mark) -> Run
+pub(crate) fn begin(samples: &[i32], smoothing: u64, m: Mark) -> Run
     requires { ⌜ Within (now samples) smoothing ⌝ }
     requires { ⌜ m .i < length (now samples) ⌝ }
     requires { ⌜ Upto 1099511627776 (m .u) ⌝ }
@@ -153,7 +153,7 @@ fn cut(i: usize, s: Slope) -> Piece
 }
 
 // Step 3's test, where a minute is left.
-pub fn falls(samples: &[i32], smoothing: u64, r: Run) -> bool
+pub(crate) fn falls(samples: &[i32], smoothing: u64, r: Run) -> bool
     requires { ⌜ Within (now samples) smoothing ⌝ }
     requires { ⌜ Good (now samples) smoothing r ⌝ }
     requires { ⌜ r .at .k < length (now samples) ⌝ }
@@ -167,7 +167,7 @@ pub fn falls(samples: &[i32], smoothing: u64, r: Run) -> bool
 }
 
 // Step 4's test, where a minute is left.
-pub fn rises(samples: &[i32], smoothing: u64, r: Run) -> bool
+pub(crate) fn rises(samples: &[i32], smoothing: u64, r: Run) -> bool
     requires { ⌜ Within (now samples) smoothing ⌝ }
     requires { ⌜ Good (now samples) smoothing r ⌝ }
     requires { ⌜ r .at .k < length (now samples) ⌝ }
@@ -181,7 +181,7 @@ pub fn rises(samples: &[i32], smoothing: u64, r: Run) -> bool
 }
 
 // Step 3: the segment ends where the lower bound was touched.
-pub fn fall(samples: &[i32], smoothing: u64, r: Run) -> Ending
+pub(crate) fn fall(samples: &[i32], smoothing: u64, r: Run) -> Ending
     requires { ⌜ Within (now samples) smoothing ⌝ }
     requires { ⌜ Good (now samples) smoothing r ⌝ }
     requires { ⌜ r .at .k < length (now samples) ⌝ }
@@ -196,7 +196,7 @@ pub fn fall(samples: &[i32], smoothing: u64, r: Run) -> Ending
 }
 
 // Step 4: the segment ends where the upper bound was touched.
-pub fn rise(samples: &[i32], smoothing: u64, r: Run) -> Ending
+pub(crate) fn rise(samples: &[i32], smoothing: u64, r: Run) -> Ending
     requires { ⌜ Within (now samples) smoothing ⌝ }
     requires { ⌜ Good (now samples) smoothing r ⌝ }
     requires { ⌜ r .at .k < length (now samples) ⌝ }
@@ -212,7 +212,7 @@ pub fn rise(samples: &[i32], smoothing: u64, r: Run) -> Ending
 }
 
 // Steps 5 and 6.
-pub fn more(samples: &[i32], smoothing: u64, r: Run) -> Run
+pub(crate) fn more(samples: &[i32], smoothing: u64, r: Run) -> Run
     requires { ⌜ Within (now samples) smoothing ⌝ }
     requires { ⌜ Good (now samples) smoothing r ⌝ }
     requires { ⌜ r .at .k < length (now samples) ⌝ }
@@ -237,7 +237,7 @@ pub fn more(samples: &[i32], smoothing: u64, r: Run) -> Run
 }
 
 // Steps 8 to 10. Step 2 is step 10 at a segment of one minute.
-pub fn finish(samples: &[i32], smoothing: u64, r: Run) -> Next
+pub(crate) fn finish(samples: &[i32], smoothing: u64, r: Run) -> Next
     requires { ⌜ Within (now samples) smoothing ⌝ }
     requires { ⌜ Good (now samples) smoothing r ⌝ }
     requires { ⌜ r .at .k ≡ length (now samples) ⌝ }

@@ -25,7 +25,7 @@ pub struct Dual {
 }
 
 // The dual, all along the line.
-pub fn trace(samples: &[i32], smoothing: u64, out: &mut [i64])
+pub(crate) fn trace(samples: &[i32], smoothing: u64, out: &mut [i64])
     requires { ⌜ Within (now samples) smoothing ⌝ }
     requires { ⌜ length (now samples) ≤ length (now out) ⌝ }
     ensures { λ _. ⌜ now (out .exit) ≡ refill (duals (pos 0) (now (samples .entry)) (plain-line (pos smoothing) (now (samples .entry)))) (now (out .entry)) ⌝ }

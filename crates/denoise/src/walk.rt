@@ -23,7 +23,7 @@ pub struct Walk {
     pub dual: Dual,
 }
 
-pub fn start() -> Walk
+pub(crate) fn start() -> Walk
     ensures { λ r. ⌜ r ≡ setting-out ⌝ }
 {
     let outline = super::outline::start();
@@ -38,7 +38,7 @@ pub fn start() -> Walk
 }
 
 // With one segment more.
-pub fn step(samples: &[i32], smoothing: u64, w: Walk, t: Level, place: usize) -> Walk
+pub(crate) fn step(samples: &[i32], smoothing: u64, w: Walk, t: Level, place: usize) -> Walk
     ensures { λ r. ⌜ r ≡ stepOf smoothing (now (samples .entry)) w t place ⌝ }
 {
     let o = w.outline;
@@ -48,7 +48,7 @@ pub fn step(samples: &[i32], smoothing: u64, w: Walk, t: Level, place: usize) ->
     Walk { outline, dual }
 }
 
-pub fn whole(samples: &[i32], smoothing: u64, lengths: &[u32], totals: &[i64]) -> Walk
+pub(crate) fn whole(samples: &[i32], smoothing: u64, lengths: &[u32], totals: &[i64]) -> Walk
     requires { ⌜ length (now lengths) ≡ length (now totals) ⌝ }
     ensures { λ r. ⌜ r ≡ walkOf smoothing (now (samples .entry)) setting-out 1 (now (lengths .entry)) (now (totals .entry)) ⌝ }
 {
@@ -63,7 +63,13 @@ pub fn whole(samples: &[i32], smoothing: u64, lengths: &[u32], totals: &[i64]) -
     w
 }
 
-pub fn step_segment(samples: &[i32], smoothing: u64, w: Walk, s: Segment, place: usize) -> Walk
+pub(crate) fn step_segment(
+    samples: &[i32],
+    smoothing: u64,
+    w: Walk,
+    s: Segment,
+    place: usize,
+) -> Walk
     ensures { λ r. ⌜ r ≡ stepOf smoothing (now (samples .entry)) w (level-of s) place ⌝ }
 {
     step(
@@ -79,14 +85,14 @@ pub fn step_segment(samples: &[i32], smoothing: u64, w: Walk, s: Segment, place:
 }
 
 // The answer at the end of a walk along a run of so many segments.
-pub fn close(samples: &[i32], smoothing: u64, segments: usize, w: Walk) -> Checked
+pub(crate) fn close(samples: &[i32], smoothing: u64, segments: usize, w: Walk) -> Checked
     ensures { λ r. ⌜ checked r ≡ concludeOf (now (samples .entry)) smoothing (ltb 0 segments) w ⌝ }
 {
     conclude(samples, smoothing, segments > 0, w)
 }
 
 // The answer at the end of the walk. What it did not reach of the samples is looked through for 3.
-pub fn conclude(samples: &[i32], smoothing: u64, paired: bool, w: Walk) -> Checked
+pub(crate) fn conclude(samples: &[i32], smoothing: u64, paired: bool, w: Walk) -> Checked
     ensures { λ r. ⌜ checked r ≡ concludeOf (now (samples .entry)) smoothing paired w ⌝ }
 {
     let n = samples.len();
