@@ -1,4 +1,4 @@
--- The line in the completer's lists: drawn by `denoise::line` where none was filed, and otherwise the one that passed the check, which is the same.
+-- The line in the completer's lists: drawn where none was filed, and otherwise the one that passed the check, which is the same.
 use mathlib.Core.Path.{_≡_, refl, sym, ap, _∙_}
 use mathlib.Core.List.{List, _++_}
 use mathlib.Core.Logic.{⊎-elim}
@@ -13,8 +13,7 @@ use Rattle.optimality.specs.Plain.{lens, totals}
 use Rattle.optimality.specs.Machine.{plain-line}
 use Rattle.level.specs.Answer.{Answer, refused, given}
 use Rattle.denoise.specs.Limits.{in-limits, refill}
-use Rattle.denoise.specs.Line.{lineOf, lengthsOf, totalsOf}
-use Rattle.denoise.proofs.Admitted.{within, passed}
+use Rattle.denoise.proofs.Admitted.{within}
 use Rattle.denoise.proofs.Refill.{take-refill, length-refill}
 use Rattle.sheet.specs.Answer.{fields}
 use Rattle.sheet.specs.Format.{minutes, segment-count, smoothing, samples, read-sample, read-length, size, sheet-bytes}
@@ -24,6 +23,7 @@ use Rattle.sheet.specs.SheetLaws.{length-sheet-bytes}
 use Rattle.sheet.specs.Read.{filed}
 use Rattle.sheet.specs.Complete.{finishOf, finishedAfter, completeOf, completedAfter, fine, Ready, Has}
 use Rattle.sheet.specs.declared.Fields.{Fields}
+use Rattle.sheet.proofs.LoadLaws.{samples-loaded}
 use Rattle.sheet.proofs.Judged.{line-few, Judged, judged}
 
 module _ (ys : List ℤ) (L m : ℕ) (ns : List ℕ) (ts : List ℤ) (ready : Ready ys L m ns ts) where
@@ -36,13 +36,8 @@ module _ (ys : List ℤ) (L m : ℕ) (ns : List ℕ) (ts : List ℤ) (ready : Re
   pub fewer : length l ≤ length ys
   fewer = line-few ys L (within ys L (ready .limited) .some)
 
-  pub draws : lineOf ys L ns ts ≡ given (length l)
-  draws = passed ys L _ (ready .limited) ∙ rw (le-ltb (length ns) (length ys) (ready .lengths-room), le-ltb (length ts) (length ys) (ready .totals-room))
-
-  pub drawn-line : (k : ℕ) (ns′ : List ℕ) (ts′ : List ℤ) → k ≡ length l → ns′ ≡ lengthsOf ys L ns ts → ts′ ≡ totalsOf ys L ns ts → Has l k ns′ ts′
+  pub drawn-line : (k : ℕ) (ns′ : List ℕ) (ts′ : List ℤ) → k ≡ length l → ns′ ≡ refill (lens l) ns → ts′ ≡ refill (totals l) ts → Has l k ns′ ts′
   drawn-line k ns′ ts′ e p q =
-      let p′ : ns′ ≡ refill (lens l) ns = p ∙ rw draws in
-      let q′ : ts′ ≡ refill (totals l) ts = q ∙ rw draws in
       let a : length (lens l) ≡ length l = length-map l _ in
       let b : length (totals l) ≡ length l = length-map l _ in
       let rn = ready .lengths-room in
@@ -50,10 +45,10 @@ module _ (ys : List ℤ) (L m : ℕ) (ns : List ℕ) (ts : List ℤ) (ready : Re
       record {
         count = e;
         few = omega (arith, fewer, few);
-        lengths = rw (p′, e, ← a) (take-refill (lens l) ns);
-        totals = rw (q′, e, ← b) (take-refill (totals l) ts);
-        lengths-room = rw p′ (omega (arith, length-refill (lens l) ns (omega (arith, a, fewer)), fewer));
-        totals-room = rw q′ (omega (arith, length-refill (totals l) ts (omega (arith, b, fewer)), fewer));
+        lengths = rw (p, e, ← a) (take-refill (lens l) ns);
+        totals = rw (q, e, ← b) (take-refill (totals l) ts);
+        lengths-room = rw p (omega (arith, length-refill (lens l) ns (omega (arith, a, fewer)), fewer));
+        totals-room = rw q (omega (arith, length-refill (totals l) ts (omega (arith, b, fewer)), fewer));
       }
 
   pub filed-line : 0 < m → Has l m ns ts
@@ -107,19 +102,19 @@ module _ (ys : List ℤ) (L : ℕ) (out : List ℕ) (m : ℕ) where
 
 -- ---- with lists that `load` filled
 module _ (s : List ℕ) (f : Fields) (ys : List ℤ) (ys₀ : List ℤ) (e : f ≡ fields s) (ey : ys ≡ samples s ++ drop (minutes s) ys₀) where
-  pub samples-loaded : take (f .minutes) ys ≡ samples s
-  samples-loaded = rw (e, ey) (take-at (samples s) _ (minutes s) (length-records 4 read-sample _ _))
+  samples-here : take (f .minutes) ys ≡ samples s
+  samples-here = samples-loaded s f e ys ys₀ ey
 
-  pub ready-loaded : (ns ns₀ : List ℕ) (ts ts₀ : List ℤ) → 65536 ≤ length ns₀ → 65536 ≤ length ts₀ → in-limits (samples s) (smoothing s) (filed (samples s) (smoothing s) (Format.lengths s) (Format.totals s) fine) ≡ fine
+  pub ready-loaded : (ns ns₀ : List ℕ) (ts ts₀ : List ℤ) → minutes s ≤ length ns₀ → minutes s ≤ length ts₀ → in-limits (samples s) (smoothing s) (filed (samples s) (smoothing s) (Format.lengths s) (Format.totals s) fine) ≡ fine
       → ns ≡ Format.lengths s ++ drop (segment-count s) ns₀ → ts ≡ Format.totals s ++ drop (segment-count s) ts₀ → Ready (take (f .minutes) ys) (f .smoothing) (f .segments) ns ts
   ready-loaded ns ns₀ ts ts₀ hn ht a en et =
       let j = judged (samples s) (smoothing s) (Format.lengths s) (Format.totals s) a in
-      let few = j .few in
-      rw (samples-loaded, e, en, et)
+      let n : length (samples s) ≡ minutes s = length-records 4 read-sample _ _ in
+      rw (samples-here, e, en, et)
       (ready (samples s) (smoothing s) (segment-count s) (Format.lengths s) (Format.totals s) ns₀ ts₀ j (length-records 12 read-length _ _) (omega arith) (omega arith))
 
   pub completes : (out out′ : List ℕ) (r : Answer ℕ) → completeOf s out ≡ finishOf (samples s) (smoothing s) out
       → (r ≡ finishOf (take (f .minutes) ys) (f .smoothing) out) × (out′ ≡ finishedAfter (take (f .minutes) ys) (f .smoothing) out) → (r ≡ completeOf s out) × (out′ ≡ completedAfter s out)
   completes out out′ r c p =
-      let q : (r ≡ finishOf (samples s) (smoothing s) out) × (out′ ≡ finishedAfter (samples s) (smoothing s) out) = rw (samples-loaded, e) at p in
+      let q : (r ≡ finishOf (samples s) (smoothing s) out) × (out′ ≡ finishedAfter (samples s) (smoothing s) out) = rw (samples-here, e) at p in
       (q .0 ∙ sym c, q .1 ∙ rw c)

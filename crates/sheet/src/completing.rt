@@ -13,10 +13,34 @@ use super::Written;
 use super::loading;
 use super::put_sheet;
 use denoise::Checked;
-use denoise::Drawn;
 
-// With a header in order.
+// With a header in order: a small sheet in little memory.
 pub(crate) fn complete_fields(sheet: &[u8], f: Fields, out: &mut [u8]) -> Written
+    requires { ⌜ InOrder (now sheet) ⌝ }
+    requires { ⌜ f ≡ fields (now sheet) ⌝ }
+    ensures { λ r. ⌜ written r ≡ completeOf (now (sheet .entry)) (now (out .entry)) ⌝ }
+    ensures { λ r. ⌜ now (out .exit) ≡ completedAfter (now (sheet .entry)) (now (out .entry)) ⌝ }
+{
+    if f.minutes <= 1024 {
+        return complete_small(sheet, f, out);
+    }
+    complete_large(sheet, f, out)
+}
+
+fn complete_small(sheet: &[u8], f: Fields, out: &mut [u8]) -> Written
+    requires { ⌜ InOrder (now sheet) ⌝ }
+    requires { ⌜ f ≡ fields (now sheet) ⌝ }
+    requires { ⌜ f .minutes ≤ 1024 ⌝ }
+    ensures { λ r. ⌜ written r ≡ completeOf (now (sheet .entry)) (now (out .entry)) ⌝ }
+    ensures { λ r. ⌜ now (out .exit) ≡ completedAfter (now (sheet .entry)) (now (out .entry)) ⌝ }
+{
+    let mut ys = [0i32; 1024];
+    let mut ns = [0u32; 1024];
+    let mut ts = [0i64; 1024];
+    complete_lists(sheet, f, out, &mut ys, &mut ns, &mut ts)
+}
+
+fn complete_large(sheet: &[u8], f: Fields, out: &mut [u8]) -> Written
     requires { ⌜ InOrder (now sheet) ⌝ }
     requires { ⌜ f ≡ fields (now sheet) ⌝ }
     ensures { λ r. ⌜ written r ≡ completeOf (now (sheet .entry)) (now (out .entry)) ⌝ }
@@ -39,9 +63,9 @@ fn complete_lists(
 ) -> Written
     requires { ⌜ InOrder (now sheet) ⌝ }
     requires { ⌜ f ≡ fields (now sheet) ⌝ }
-    requires { ⌜ 65536 ≤ length (now ys) ⌝ }
-    requires { ⌜ 65536 ≤ length (now ns) ⌝ }
-    requires { ⌜ 65536 ≤ length (now ts) ⌝ }
+    requires { ⌜ f .minutes ≤ length (now ys) ⌝ }
+    requires { ⌜ f .minutes ≤ length (now ns) ⌝ }
+    requires { ⌜ f .minutes ≤ length (now ts) ⌝ }
     ensures { λ r. ⌜ written r ≡ completeOf (now (sheet .entry)) (now (out .entry)) ⌝ }
     ensures { λ r. ⌜ now (out .exit) ≡ completedAfter (now (sheet .entry)) (now (out .entry)) ⌝ }
 {
@@ -77,8 +101,5 @@ fn drawn(segments: u32, smoothing: u64, ys: &[i32], ns: &mut [u32], ts: &mut [i6
     if segments > 0 {
         return segments as usize;
     }
-    match denoise::line(ys, smoothing, ns, ts) {
-        Drawn::Segments(m) => m as usize,
-        Drawn::Refused(number, place) => 0,
-    }
+    denoise::inner::draw(ys, smoothing, ns, ts) as usize
 }

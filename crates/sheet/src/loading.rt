@@ -38,9 +38,9 @@ pub(crate) fn load(
 ) -> Checked
     requires { ⌜ InOrder (now sheet) ⌝ }
     requires { ⌜ f ≡ fields (now sheet) ⌝ }
-    requires { ⌜ 65536 ≤ length (now ys) ⌝ }
-    requires { ⌜ 65536 ≤ length (now ns) ⌝ }
-    requires { ⌜ 65536 ≤ length (now ts) ⌝ }
+    requires { ⌜ f .minutes ≤ length (now ys) ⌝ }
+    requires { ⌜ f .minutes ≤ length (now ns) ⌝ }
+    requires { ⌜ f .minutes ≤ length (now ts) ⌝ }
     ensures { λ r. ⌜ checked r ≡ in-limits (samples (now (sheet .entry))) (smoothing (now (sheet .entry)))
         (filed (samples (now (sheet .entry))) (smoothing (now (sheet .entry))) (lengths (now (sheet .entry))) (totals (now (sheet .entry))) (given tt)) ⌝ }
     ensures { λ r. ⌜ now (ys .exit) ≡ samples (now (sheet .entry)) ++ drop (minutes (now (sheet .entry))) (now (ys .entry)) ⌝ }
@@ -52,30 +52,4 @@ pub(crate) fn load(
     lists::read_samples(sheet, n, ys);
     lists::read_segments(sheet, 32 + 4 * n, m, ns, ts);
     judge(&ys[..n], f.smoothing, &ns[..m], &ts[..m])
-}
-
-// All but 5.
-pub(crate) fn accept(sheet: &[u8]) -> Reading
-    ensures { λ r. ⌜ headed r ≡ accepted (now (sheet .entry)) (given (fields (now (sheet .entry)))) ⌝ }
-{
-    match header::read_header(sheet) {
-        Reading::Refused(number, place) => Reading::Refused(number, place),
-        Reading::Valid(f) => match accept_lists(sheet, f) {
-            Checked::Refused(number, place) => Reading::Refused(number, place),
-            Checked::Passed => Reading::Valid(f),
-        },
-    }
-}
-
-// The lists are judged in memory of their own, since a refusal leaves what is lent as it was.
-fn accept_lists(sheet: &[u8], f: Fields) -> Checked
-    requires { ⌜ InOrder (now sheet) ⌝ }
-    requires { ⌜ f ≡ fields (now sheet) ⌝ }
-    ensures { λ r. ⌜ checked r ≡ in-limits (samples (now (sheet .entry))) (smoothing (now (sheet .entry)))
-        (filed (samples (now (sheet .entry))) (smoothing (now (sheet .entry))) (lengths (now (sheet .entry))) (totals (now (sheet .entry))) (given tt)) ⌝ }
-{
-    let mut ys = [0i32; 65536];
-    let mut ns = [0u32; 65536];
-    let mut ts = [0i64; 65536];
-    load(sheet, f, &mut ys, &mut ns, &mut ts)
 }

@@ -14,14 +14,14 @@ returns : tie.Need-returns
 returns c =
     let m = c .before in
     let l = m .before .before .before .before .before in
-    (toZ-pos w64 (omega (arith, c .known-told .given)) ∙ ap code (sym (ap drawn (m .m .given .1)) ∙ l .line .ensures .0), l .line .ensures .1)
+    (toZ-pos w64 (omega (arith, c .known-told .given)) ∙ ap code (sym (ap drawn (m .m .given .1)) ∙ l .line .ensures .0), (l .line .ensures .1 .0, l .line .ensures .1 .1 .0))
 
 returns-2 : tie.Need-returns-2
 returns-2 c =
     let r : SFits w64 (c .refusal .result) = record { sfits = c .refusal .ok } in
     let n = c .before .before in
     let l = n .before .before .before .before .before in
-    (toZ-ofZ r ∙ c .refusal .ensures ∙ ap code (sym (ap drawn (n .number .given .1)) ∙ l .line .ensures .0), l .line .ensures .1)
+    (toZ-ofZ r ∙ c .refusal .ensures ∙ ap code (sym (ap drawn (n .number .given .1)) ∙ l .line .ensures .0), (l .line .ensures .1 .0, l .line .ensures .1 .1 .0))
 
 pub series-line-spec : {M : Type 1} → statement M
 series-line-spec =

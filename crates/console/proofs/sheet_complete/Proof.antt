@@ -27,14 +27,14 @@ cast-result : tie.Need-cast-result
 cast-result c = record { sfits = omega (arith, few c) }
 
 returns : tie.Need-returns
-returns c = (toZ-pos w64 (omega (arith, few c)) ∙ ap code (answer c), c .before .before .before .before .before .complete .ensures .1)
+returns c = (toZ-pos w64 (omega (arith, few c)) ∙ ap code (answer c), c .before .before .before .before .before .complete .ensures .1 .0)
 
 returns-2 : tie.Need-returns-2
 returns-2 c =
     let r : SFits w64 (c .refusal .result) = record { sfits = c .refusal .ok } in
     let n = c .before .before in
     let l = n .before .before .before .before in
-    (toZ-ofZ r ∙ c .refusal .ensures ∙ ap code (sym (ap written (n .number .given .1)) ∙ l .complete .ensures .0), l .complete .ensures .1)
+    (toZ-ofZ r ∙ c .refusal .ensures ∙ ap code (sym (ap written (n .number .given .1)) ∙ l .complete .ensures .0), l .complete .ensures .1 .0)
 
 pub sheet-complete-spec : {M : Type 1} → statement M
 sheet-complete-spec =

@@ -67,7 +67,7 @@ returns-2 c =
         g .read .ensures .1 .0 ∙ as-read g _ _,
         (
           g .read .ensures .1 .1 .0 ∙ as-read g _ _,
-          (g .read .ensures .1 .1 .1 ∙ as-read g _ _, rw (t .1) (w .tell .ensures .1 ∙ ap (λ f. refill (three f) (a g .args .fields .now)) (t .0))),
+          (g .read .ensures .1 .1 .1 .0 ∙ as-read g _ _, rw (t .1) (w .tell .ensures .1 ∙ ap (λ f. refill (three f) (a g .args .fields .now)) (t .0))),
         ),
       ),
     )
@@ -79,7 +79,7 @@ returns-3 c =
     let r : SFits w64 (c .refusal .result) = record { sfits = c .refusal .ok } in
     let t = refused-too g (ap headed (n .number .given .1)) in (
       toZ-ofZ r ∙ c .refusal .ensures ∙ ap code (sym t),
-      (g .read .ensures .1 .0 ∙ as-read g _ _, (g .read .ensures .1 .1 .0 ∙ as-read g _ _, (g .read .ensures .1 .1 .1 ∙ as-read g _ _, rw t))),
+      (g .read .ensures .1 .0 ∙ as-read g _ _, (g .read .ensures .1 .1 .0 ∙ as-read g _ _, (g .read .ensures .1 .1 .1 .0 ∙ as-read g _ _, rw t))),
     )
 
 pub sheet-read-spec : {M : Type 1} → statement M

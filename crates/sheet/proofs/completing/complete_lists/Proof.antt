@@ -19,7 +19,7 @@ abbrev loaded : tie.After-enum-told → tie.After-load
 loaded c = c .before .before .before .before .before .before
 
 samples-part : tie.Need-slice-reshare-prefix-finish
-samples-part c = let s = start (loaded (c .before)) in rw (s .pre .1 .0) (omega (arith, s .pre .0 .few, s .pre .1 .1 .0))
+samples-part c = omega (arith, start (loaded (c .before)) .pre .1 .1 .0)
 
 finish-requires : tie.Need-finish-requires
 finish-requires c κs =
@@ -27,7 +27,8 @@ finish-requires c κs =
     let l = loaded t in
     let g = start l in
     let e = l .load .ensures in
-    ready-loaded (g .args .sheet .now) (g .args .f) _ _ (g .pre .1 .0) (e .1 .0) _ _ _ _ (g .pre .1 .1 .1 .0) (g .pre .1 .1 .1 .1)
+    let n = ap (λ f. f .minutes) (g .pre .1 .0) in
+    ready-loaded (g .args .sheet .now) (g .args .f) _ _ (g .pre .1 .0) (e .1 .0) _ _ _ _ (omega (arith, n, g .pre .1 .1 .1 .0)) (omega (arith, n, g .pre .1 .1 .1 .1))
     (sym (e .0) ∙ ap checked (t .enum-told .given .1)) (e .1 .1 .0) (e .1 .1 .1)
 
 -- 4, 3 or 6 to 9

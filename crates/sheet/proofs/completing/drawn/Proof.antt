@@ -1,51 +1,21 @@
--- `sheet::completing::drawn` meets its contract.
+-- `sheet::completing::drawn` meets its contract: the line that was filed, or the one that is drawn.
 use borrow.Author.Needs.{needs}
-use mathlib.Core.Path.{_≡_, sym, ap, _∙_}
-use lib.ListN.{length}
-use lib.IntN.{pos}
-use Rattle.optimality.specs.Machine.{plain-line}
-use Rattle.level.specs.Answer.{given}
-use Rattle.denoise.specs.Line.{drawn}
-use Rattle.denoise.proofs.Refusals.{never}
-use Rattle.sheet.proofs.OwnLine.{draws, drawn-line, filed-line}
+use Rattle.sheet.proofs.OwnLine.{drawn-line, filed-line}
 use Rattle.sheet.proofs.completing.drawn.Statement.{statement}
 use Rattle.sheet.proofs.completing.drawn.Tie as tie
 
 returns : tie.Need-returns
 returns c = let s = c .before .before in filed-line (s .args .ys .now) (s .args .smoothing) (s .args .segments) (s .args .ns .now) (s .args .ts .now) (s .pre) (c .if1 .taken)
 
--- what `denoise::line` answers
-answer : (c : tie.After-line) → let s = c .before .before .before .before .before in
-    drawn (c .line .result) ≡ given (length (plain-line (pos (s .args .smoothing)) (s .args .ys .now)))
-answer c =
-    let s = c .before .before .before .before .before in
-    c .line .ensures .0 ∙ draws (s .args .ys .now) (s .args .smoothing) (s .args .segments) (s .args .ns .now) (s .args .ts .now) (s .pre)
+draw-requires : tie.Need-draw-requires
+draw-requires c κs = let r = c .before .before .before .before .pre in (r .limited, (r .lengths-room, r .totals-room))
 
 returns-2 : tie.Need-returns-2
 returns-2 c =
-    let l = c .before .before .before .before .before .before in
-    let s = l .before .before .before .before .before in
-    let d = sym (ap drawn (c .before .m .given .1)) ∙ answer l in
+    let d = c .before .before .before in
+    let s = d .before .before .before .before .before in
     drawn-line (s .args .ys .now) (s .args .smoothing) (s .args .segments) (s .args .ns .now) (s .args .ts .now) (s .pre)
-    (c .before .m .given .0 .0) (l .line .last .1 .1 .0) (l .line .last .1 .1 .1 .0) (cc) (l .line .ensures .1 .0) (l .line .ensures .1 .1)
-
-returns-3 : tie.Need-returns-3
-returns-3 c =
-    let l = c .before .before .before .before .before .before in
-    never (sym (ap drawn (c .before .number .given .1)) ∙ answer l)
+    (d .draw .result) (d .draw .last .1 .1 .0) (d .draw .last .1 .1 .1 .0) (d .draw .ensures .0) (d .draw .ensures .1 .0) (d .draw .ensures .1 .1)
 
 pub drawn-spec : {M : Type 1} → statement M
-drawn-spec =
-    tie.close
-    (tie.spec
-    returns
-    (λ c κs. search needs)
-    (λ c. search needs)
-    (λ c. search needs)
-    (λ c. search needs)
-    (λ c. search needs)
-    (λ c. search needs)
-    returns-2
-    (λ c. search needs)
-    (λ c. search needs)
-    returns-3)
+drawn-spec = tie.close (tie.spec returns draw-requires (λ c. search needs) (λ c. search needs) (λ c. search needs) returns-2)
