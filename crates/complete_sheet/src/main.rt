@@ -8,10 +8,12 @@ ghost use lib.IntN.{pos};
 ghost use Rattle.optimality.specs.Machine.{plain-line};
 ghost use Rattle.codec.specs.Place.{overwrite};
 ghost use Rattle.text.specs.Decimal.{decimal, signedDecimal};
-ghost use Rattle.sheet.specs.Complete.{Ready, Has};
+ghost use Rattle.sheet.specs.Complete.{Has};
 ghost use Rattle.sheet.specs.Read.{readOf};
 ghost use Rattle.io.specs.Counts.{Counts};
+ghost use Rattle.complete_sheet.specs.Ready.{Ready};
 ghost use Rattle.complete_sheet.specs.Report.{row, rows, heading, line-text, line-shown, refusal, answer-text, reportOf};
+use denoise::Drawn;
 use sheet::Fields;
 use sheet::Reading;
 
@@ -138,7 +140,10 @@ fn draw(f: Fields, samples: &[i32], lengths: &mut [u32], totals: &mut [i64]) -> 
     if f.segments > 0 {
         return f.segments as usize;
     }
-    denoise::inner::draw(samples, f.smoothing, lengths, totals) as usize
+    match denoise::line(samples, f.smoothing, lengths, totals) {
+        Drawn::Segments(m) => m as usize,
+        Drawn::Refused(number, place) => 0,
+    }
 }
 
 // With lists that are accepted.

@@ -32,7 +32,7 @@ module _ (ys : List ℤ) (L : ℕ) (ns : List ℕ) (ts : List ℤ) (m : ℕ) (e 
       let n : length (map f l) ≡ m = length-map l f ∙ sym k in
       (ap (take m) h ∙ take-at (map f l) _ m n, ap (drop m) h ∙ drop-at (map f l) _ m n ∙ ap (λ j. drop j old) n)
 
-  lists : Limited ys L × (m ≡ length l)
+  pub lists : Limited ys L × (m ≡ length l)
   lists =
       let p = limits-past ys L (λ number place h q. never q) e in
       let q = if-past (ltb (length ns) (length ys) || ltb (length ts) (length ys)) (λ q. never q) (p .1) in
@@ -41,10 +41,10 @@ module _ (ys : List ℤ) (L : ℕ) (ns : List ℕ) (ts : List ℤ) (m : ℕ) (e 
       same : {x y : ℕ} → given x ≡ given y → x ≡ y
       same e = cc
 
-  lengths-are : (take m (lengthsOf ys L ns ts) ≡ lens l) × (drop m (lengthsOf ys L ns ts) ≡ drop m ns)
+  pub lengths-are : (take m (lengthsOf ys L ns ts) ≡ lens l) × (drop m (lengthsOf ys L ns ts) ≡ drop m ns)
   lengths-are = first-list (λ s. s .len) ns (lengthsOf ys L ns ts) (lists .1) (rw e)
 
-  totals-are : (take m (totalsOf ys L ns ts) ≡ totals l) × (drop m (totalsOf ys L ns ts) ≡ drop m ts)
+  pub totals-are : (take m (totalsOf ys L ns ts) ≡ totals l) × (drop m (totalsOf ys L ns ts) ≡ drop m ts)
   totals-are = first-list (λ s. s .total) ts (totalsOf ys L ns ts) (lists .1) (rw e)
 
   -- the line that the lists then hold

@@ -14,7 +14,6 @@ ghost use Rattle.denoise.specs.Optimality.{Meets, Only, Least, PassesOpt
 
 mod drawing;
 mod dual_walk;
-pub mod inner;
 mod limits;
 mod outline;
 mod steps;

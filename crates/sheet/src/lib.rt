@@ -1,13 +1,12 @@
 // Sheets: the archive's format, 32 bytes of header, then the samples, then the segments of the line (paper 01, "The sheet").
 ghost use mathlib.Core.Path.{_≡_};
-ghost use mathlib.Core.List.{_++_};
-ghost use Prim.Native.Nat.{_≤_, _<_};
-ghost use lib.ListN.{length, take, drop};
+ghost use Prim.Native.Nat.{_<_};
+ghost use lib.ListN.{take};
 ghost use Rattle.optimality.specs.Plain.{segments};
 ghost use Rattle.level.specs.Answer.{when-given};
 ghost use Rattle.denoise.specs.Optimality.{Meets, Only, Least};
 ghost use Rattle.sheet.specs.Answer.{headed};
-ghost use Rattle.sheet.specs.Format.{smoothing, samples, lengths, totals, filed-line, size, sheet-bytes};
+ghost use Rattle.sheet.specs.Format.{smoothing, samples, lengths, totals, filed-line};
 ghost use Rattle.sheet.specs.Read.{readOf, samplesAfter, lengthsAfter, totalsAfter};
 ghost use Rattle.sheet.specs.Write.{written, writeOf, writtenAfter};
 ghost use Rattle.sheet.specs.Complete.{completeOf, completedAfter};
@@ -18,6 +17,7 @@ mod lists;
 mod loading;
 mod numbers;
 mod reader;
+mod writer;
 
 use denoise::Checked;
 
@@ -67,14 +67,7 @@ pub fn write(
 {
     match loading::judge(samples, smoothing, lengths, totals) {
         Checked::Refused(number, place) => Written::Refused(number, place),
-        Checked::Passed => {
-            let bytes = 32 + 4 * samples.len() + 12 * lengths.len();
-            if out.len() < bytes {
-                return Written::Refused(5, 0);
-            }
-            put_sheet(samples, smoothing, lengths, totals, out);
-            Written::Bytes(bytes)
-        }
+        Checked::Passed => writer::put_sheet(samples, smoothing, lengths, totals, out),
     }
 }
 
@@ -91,20 +84,4 @@ pub fn complete(sheet: &[u8], out: &mut [u8]) -> Written
         Reading::Refused(number, place) => Written::Refused(number, place),
         Reading::Valid(f) => completing::complete_fields(sheet, f, out),
     }
-}
-
-// The sheet that holds these lists, at the start of `out`; the bytes past it stay.
-fn put_sheet(samples: &[i32], smoothing: u64, lengths: &[u32], totals: &[i64], out: &mut [u8])
-    requires { ⌜ length (now samples) ≤ 65536 ⌝ }
-    requires { ⌜ length (now lengths) ≤ 65536 ⌝ }
-    requires { ⌜ length (now lengths) ≡ length (now totals) ⌝ }
-    requires { ⌜ size (length (now samples)) (length (now lengths)) ≤ length (now out) ⌝ }
-    ensures { λ _. ⌜ now (out .exit) ≡ sheet-bytes (now (samples .entry)) smoothing (now (lengths .entry)) (now (totals .entry))
-        ++ drop (size (length (now (samples .entry))) (length (now (lengths .entry)))) (now (out .entry)) ⌝ }
-{
-    let n = samples.len();
-    let m = lengths.len();
-    header::write_header(out, n as u32, m as u32, smoothing);
-    lists::write_samples(samples, out, 32);
-    lists::write_segments(lengths, totals, out, 32 + 4 * n);
 }

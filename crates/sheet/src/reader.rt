@@ -2,10 +2,10 @@
 ghost use mathlib.Core.Path.{_≡_};
 ghost use Prim.Native.Nat.{_≤_};
 ghost use lib.ListN.{length};
-ghost use Rattle.denoise.specs.Limits.{refill, on-success};
+ghost use Rattle.denoise.specs.Limits.{in-limits, refill, on-success};
 ghost use Rattle.sheet.specs.Answer.{fields, headed};
 ghost use Rattle.sheet.specs.HeadLaws.{InOrder};
-ghost use Rattle.sheet.specs.Read.{with-room, readOf, samplesAfter, lengthsAfter, totalsAfter};
+ghost use Rattle.sheet.specs.Read.{filed, with-room, readOf, samplesAfter, lengthsAfter, totalsAfter};
 use super::Fields;
 use super::Reading;
 use super::lists;
@@ -113,17 +113,13 @@ fn read_lists(
     ensures { λ r. ⌜ now (lengths .exit) ≡ lengthsAfter (now (sheet .entry)) (now (samples .entry)) (now (lengths .entry)) (now (totals .entry)) ⌝ }
     ensures { λ r. ⌜ now (totals .exit) ≡ totalsAfter (now (sheet .entry)) (now (samples .entry)) (now (lengths .entry)) (now (totals .entry)) ⌝ }
 {
-    match loading::load(sheet, f, ys, ns, ts) {
-        Checked::Refused(number, place) => Reading::Refused(number, place),
-        Checked::Passed => {
-            let n = f.minutes as usize;
-            let m = f.segments as usize;
-            fill(f, &ys[..n], &ns[..m], &ts[..m], samples, lengths, totals)
-        }
-    }
+    loading::decode(sheet, f, ys, ns, ts);
+    let n = f.minutes as usize;
+    let m = f.segments as usize;
+    fill(f, &ys[..n], &ns[..m], &ts[..m], samples, lengths, totals)
 }
 
-// With lists that are accepted: 5, or copies of them.
+// With the sheet's lists: their refusals, then 5, or copies of them.
 fn fill(
     f: Fields,
     ys: &[i32],
@@ -136,11 +132,18 @@ fn fill(
     requires { ⌜ length (now ys) ≡ f .minutes ⌝ }
     requires { ⌜ length (now ns) ≡ length (now ts) ⌝ }
     requires { ⌜ length (now ns) ≤ f .minutes ⌝ }
-    ensures { λ r. ⌜ headed r ≡ with-room f (now (samples .entry)) (now (lengths .entry)) (now (totals .entry)) ⌝ }
+    ensures { λ r. ⌜ headed r ≡ in-limits (now (ys .entry)) (f .smoothing) (filed (now (ys .entry)) (f .smoothing) (now (ns .entry)) (now (ts .entry))
+        (with-room f (now (samples .entry)) (now (lengths .entry)) (now (totals .entry)))) ⌝ }
     ensures { λ r. ⌜ now (samples .exit) ≡ on-success (headed r) (refill (now (ys .entry)) (now (samples .entry))) (now (samples .entry)) ⌝ }
     ensures { λ r. ⌜ now (lengths .exit) ≡ on-success (headed r) (refill (now (ns .entry)) (now (lengths .entry))) (now (lengths .entry)) ⌝ }
     ensures { λ r. ⌜ now (totals .exit) ≡ on-success (headed r) (refill (now (ts .entry)) (now (totals .entry))) (now (totals .entry)) ⌝ }
 {
+    match loading::judge(ys, f.smoothing, ns, ts) {
+        Checked::Refused(number, place) => {
+            return Reading::Refused(number, place);
+        }
+        Checked::Passed => {}
+    }
     if samples.len() < ys.len() {
         return Reading::Refused(5, 0);
     }

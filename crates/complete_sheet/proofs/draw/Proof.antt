@@ -1,23 +1,51 @@
 -- `complete_sheet::draw` meets its contract: the line that was filed, or the one that is drawn.
 use borrow.Author.Needs.{needs}
-use Rattle.sheet.proofs.OwnLine.{drawn-line, filed-line}
+use mathlib.Core.Path.{sym, ap, _∙_}
+use Rattle.denoise.specs.Line.{drawn}
+use Rattle.denoise.proofs.Admitted.{within, passed}
+use Rattle.denoise.proofs.Refusals.{never}
+use Rattle.sheet.proofs.OwnLine.{has, drawn-has, room-to-draw}
 use Rattle.complete_sheet.proofs.draw.Statement.{statement}
 use Rattle.complete_sheet.proofs.draw.Tie as tie
 
 returns : tie.Need-returns
 returns c =
-    let s = c .before .before .before .before in
-    filed-line (s .args .samples .now) (s .args .f .smoothing) (s .args .f .segments) (s .args .lengths .now) (s .args .totals .now) (s .pre) (c .before .if1 .taken)
-
-draw-requires : tie.Need-draw-requires
-draw-requires c κs = let r = c .before .before .before .before .before .pre in (r .limited, (r .lengths-room, r .totals-room))
+    let g = c .before .before .before .before in
+    let w = within (g .args .samples .now) (g .args .f .smoothing) (g .pre .limited) in
+    let o = g .pre .own (c .before .if1 .taken) in
+    has (g .args .samples .now) (g .args .f .smoothing) (g .args .f .segments) (g .args .lengths .now) (g .args .totals .now) (w .some) (w .limited .minutes) (o .0) (o .1 .0) (o .1 .1)
 
 returns-2 : tie.Need-returns-2
 returns-2 c =
-    let d = c .before .before .before in
-    let s = d .before .before .before .before .before .before in
-    drawn-line (s .args .samples .now) (s .args .f .smoothing) (s .args .f .segments) (s .args .lengths .now) (s .args .totals .now) (s .pre)
-    (d .draw .result) (d .draw .last .1 .1 .0) (d .draw .last .1 .1 .1 .0) (d .draw .ensures .0) (d .draw .ensures .1 .0) (d .draw .ensures .1 .1)
+    let l = c .before .before .before .before .before .before in
+    let g = l .before .before .before .before .before .before .args in
+    drawn-has (g .samples .now) (g .f .smoothing) (g .lengths .now) (g .totals .now) (c .before .m .given .0 .0) (l .line .last .1 .1 .0) (l .line .last .1 .1 .1 .0)
+    (sym (l .line .ensures .0) ∙ ap drawn (c .before .m .given .1)) (l .line .ensures .1 .0) (l .line .ensures .1 .1 .0)
+
+-- within the limits, and with room, nothing is refused
+returns-3 : tie.Need-returns-3
+returns-3 c =
+    let l = c .before .before .before .before .before .before in
+    let g = l .before .before .before .before .before .before in
+    never
+    (sym (ap drawn (c .before .number .given .1))
+    ∙ l .line .ensures .0
+    ∙ room-to-draw (g .args .samples .now) (g .args .f .smoothing) (g .args .lengths .now) (g .args .totals .now) (g .pre .lengths-room) (g .pre .totals-room)
+    ∙ passed (g .args .samples .now) (g .args .f .smoothing) _ (g .pre .limited))
 
 pub draw-spec : {M : Type 1} → statement M
-draw-spec = tie.close (tie.spec (λ c. search needs) returns draw-requires (λ c. search needs) (λ c. search needs) (λ c. search needs) returns-2)
+draw-spec =
+    tie.close
+    (tie.spec
+    (λ c. search needs)
+    returns
+    (λ c κs. search needs)
+    (λ c. search needs)
+    (λ c. search needs)
+    (λ c. search needs)
+    (λ c. search needs)
+    (λ c. search needs)
+    returns-2
+    (λ c. search needs)
+    (λ c. search needs)
+    returns-3)
