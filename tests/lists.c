@@ -4,12 +4,11 @@
  *
  *     lists [COUNT [GUARD]]      COUNT random sheets (default 40000)
  *
- * Each call gets areas of its own from malloc, with GUARD bytes (default 64) before and after that must stay as they are. With GUARD 0 the areas are
- * exactly as long as the call is told, fewer sets of refusals are tried and no stack: for a run under valgrind.
+ * Each call gets areas of its own with GUARD bytes (default 64) around them (harness.h). With GUARD 0, for a run under valgrind, fewer sets of refusals
+ * are tried and no stack.
  *
  * Seeds are fixed. A difference prints the seed and what was handed over. */
 #define _GNU_SOURCE
-#include <inttypes.h>
 #include <stdio.h>
 #include <stdlib.h>
 #include <string.h>
@@ -17,119 +16,15 @@
 #include <ucontext.h>
 
 #include "../include/dawhikura.h"
-#include "paper.h"
+#include "harness.h"
 #include "random.h"
 
-static size_t guard = 64;
-static uint64_t seed, state;
-static unsigned long reads, writes, segments, marks, completed, numbers[256];
+static uint64_t state;
+static unsigned long reads, writes, segments, marks, completed;
 
 static uint64_t next(void)
 {
     return next_number(&state);
-}
-
-/* ---- what is handed over, for the message */
-static struct {
-    const char *call;
-    const uint8_t *sheet;
-    size_t size;
-    const int32_t *y;
-    size_t minutes;
-    uint64_t lambda;
-    const uint32_t *length;
-    size_t lengths;
-    const i64 *total;
-    size_t totals, minute, room[4];
-} handed;
-
-static void fail(const char *what)
-{
-    printf("%s: %s, seed %" PRIu64 ", room %zu %zu %zu %zu", handed.call, what, seed, handed.room[0], handed.room[1], handed.room[2], handed.room[3]);
-    if (handed.sheet) {
-        printf(", sheet of %zu bytes", handed.size);
-        for (size_t i = 0; i < handed.size && i < 800; i++)
-            printf("%s%02x", i % 4 ? "" : " ", handed.sheet[i]);
-    } else {
-        printf(", minutes %zu, minute %zu, smoothing %" PRIu64, handed.minutes, handed.minute, handed.lambda);
-        for (size_t i = 0; handed.y && i < handed.minutes && i < 64; i++)
-            printf(" %" PRId32, handed.y[i]);
-        printf(", lengths");
-        for (size_t i = 0; i < handed.lengths && i < 64; i++)
-            printf(" %" PRIu32, handed.length[i]);
-        printf(", totals");
-        for (size_t i = 0; i < handed.totals && i < 64; i++)
-            printf(" %" PRId64, handed.total[i]);
-    }
-    printf("\n");
-    exit(1);
-}
-
-/* ---- the areas of a call, each beside what it must hold afterwards */
-static struct {
-    uint8_t *got, *want;
-    size_t bytes;
-} areas[5];
-static int used;
-
-static uint8_t *block(size_t bytes)
-{
-    uint8_t *p = malloc(bytes);
-    if (!p && bytes) {
-        printf("out of memory\n");
-        exit(2);
-    }
-    if (bytes)
-        memset(p, 0xa5 - used, bytes);
-    return p;
-}
-
-/* entries for the call to fill */
-static void *lend(size_t bytes)
-{
-    areas[used].bytes = bytes + 2 * guard;
-    areas[used].got = block(areas[used].bytes);
-    areas[used].want = block(areas[used].bytes);
-    return areas[used++].got + guard;
-}
-
-static void copy(void *to, const void *from, size_t bytes)
-{
-    if (bytes)
-        memcpy(to, from, bytes);
-}
-
-/* that the area number i, counted from 0, begins with these entries after the call */
-static void expect(int i, const void *entries, size_t bytes)
-{
-    copy(areas[i].want + guard, entries, bytes);
-}
-
-/* an input, which stays as it is */
-static const void *hand(const void *entries, size_t bytes)
-{
-    void *p = lend(bytes);
-    copy(p, entries, bytes);
-    expect(used - 1, entries, bytes);
-    return p;
-}
-
-static i64 judge(i64 want, i64 got)
-{
-    if (got != want) {
-        printf("expected %" PRId64 ", got %" PRId64 "; ", want, got);
-        fail("another result");
-    }
-    if (got < 0)
-        numbers[-got % 256]++;
-    while (used > 0) {
-        used--;
-        if (areas[used].bytes && memcmp(areas[used].got, areas[used].want, areas[used].bytes))
-            fail("an area holds something else");
-        free(areas[used].got);
-        free(areas[used].want);
-    }
-    return got;
 }
 
 /* ---- the calls */
@@ -137,10 +32,7 @@ static i64 compare_read(const uint8_t *sheet, size_t size, const size_t room[4])
 {
     static int32_t y[MOST];
     static Line line;
-    memset(&handed, 0, sizeof handed);
-    handed.call = "sheet_read";
-    handed.sheet = sheet;
-    handed.size = size;
+    handed = (Handed){.call = "sheet_read", .sheet = sheet, .size = size};
     copy(handed.room, room, sizeof handed.room);
     int32_t *samples = lend(4 * room[0]);
     uint32_t *lengths = lend(4 * room[1]);
@@ -166,13 +58,7 @@ static i64 compare_read(const uint8_t *sheet, size_t size, const size_t room[4])
 
 static void hand_line(const char *call, size_t n, const uint32_t *length, size_t lengths, const i64 *total, size_t totals)
 {
-    memset(&handed, 0, sizeof handed);
-    handed.call = call;
-    handed.minutes = n;
-    handed.length = length;
-    handed.lengths = lengths;
-    handed.total = total;
-    handed.totals = totals;
+    handed = (Handed){.call = call, .minutes = n, .length = length, .lengths = lengths, .total = total, .totals = totals};
 }
 
 static i64 compare_write(const int32_t *y, size_t n, uint64_t lambda, const uint32_t *length, size_t lengths, const i64 *total, size_t totals, size_t room)
@@ -204,6 +90,8 @@ static i64 compare_write(const int32_t *y, size_t n, uint64_t lambda, const uint
 
 static i64 compare_segments(size_t n, const uint32_t *length, size_t lengths, const i64 *total, size_t totals, const size_t room[3])
 {
+    static uint32_t first[MOST], last[MOST];
+    static double level[MOST];
     hand_line("chart_segments", n, length, lengths, total, totals);
     copy(handed.room, room, 3 * sizeof room[0]);
     uint32_t *firsts = lend(4 * room[0]), *lasts = lend(4 * room[1]);
@@ -216,12 +104,13 @@ static i64 compare_segments(size_t n, const uint32_t *length, size_t lengths, co
     if (want == 0) {
         uint32_t minute = 0;
         for (size_t s = 0; s < lengths; s++) {
-            uint32_t first = minute + 1, last = minute += length[s];
-            double level = paper_plot(length[s], total[s]);
-            copy(areas[0].want + guard + 4 * s, &first, sizeof first);
-            copy(areas[1].want + guard + 4 * s, &last, sizeof last);
-            copy(areas[2].want + guard + 8 * s, &level, sizeof level);
+            first[s] = minute + 1;
+            last[s] = minute += length[s];
+            level[s] = paper_plot(length[s], total[s]);
         }
+        expect(0, first, 4 * lengths);
+        expect(1, last, 4 * lengths);
+        expect(2, level, 8 * lengths);
         want = (i64)lengths;
     }
     segments++;
@@ -244,15 +133,6 @@ static i64 compare_mark(size_t n, const uint32_t *length, size_t lengths, const 
         expect(0, level, sizeof level);
     marks++;
     return judge(want, chart_mark(n, length_in, lengths, total_in, totals, minute, levels, room));
-}
-
-/* that a call, just compared with the paper's implementation, got what is written here by hand */
-static void must(i64 got, i64 want)
-{
-    if (got != want) {
-        printf("%" PRId64 " by hand, got %" PRId64 "; ", want, got);
-        fail("not what is written by hand");
-    }
 }
 
 /* ---- a line's chart, and a series through every call */
@@ -649,9 +529,7 @@ static void stacks(void)
 
 int main(int argc, char **argv)
 {
-    unsigned long count = argc > 1 ? strtoul(argv[1], NULL, 10) : 40000;
-    if (argc > 2)
-        guard = strtoul(argv[2], NULL, 10);
+    unsigned long count = arguments(argc, argv, 40000);
     known();
     close_levels();
     writer_refusals();
@@ -666,9 +544,8 @@ int main(int argc, char **argv)
     long_series();
     if (guard)
         stacks();
-    printf("reads %lu writes %lu charts %lu marks %lu completed %lu refused", reads, writes, segments, marks, completed);
-    for (int i = 1; i < 14; i++)
-        printf(" %d:%lu", i, numbers[i]);
+    printf("reads %lu writes %lu charts %lu marks %lu completed %lu", reads, writes, segments, marks, completed);
+    print_refused();
     printf(": all agree\n");
     return 0;
 }

@@ -287,6 +287,22 @@ i64 paper_read(const uint8_t *s, size_t size, int32_t *y, Line *line)
     return m == 0 ? paper_limits(y, n, lambda) : paper_check(y, n, lambda, line->length, m, line->total, m);
 }
 
+i64 paper_complete(const uint8_t *s, size_t size, uint8_t *out, size_t room)
+{
+    static int32_t y[MOST];
+    static Line line;
+    i64 r = paper_read(s, size, y, &line);
+    if (r)
+        return r;
+    size_t n = get(s, 4);
+    uint64_t lambda = get(s + 16, 8);
+    if (line.n == 0)
+        paper_line_long(y, n, lambda, &line);
+    if (32 + 4 * n + 12 * line.n > room)
+        return refusal(5, 0);
+    return (i64)paper_sheet(out, y, n, lambda, &line);
+}
+
 i64 paper_judge(const int32_t *y, size_t n, uint64_t lambda, const uint32_t *length, size_t lengths, const i64 *total, size_t totals)
 {
     return lengths == 0 && totals == 0 ? paper_limits(y, n, lambda) : paper_check(y, n, lambda, length, lengths, total, totals);

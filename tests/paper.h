@@ -63,6 +63,9 @@ size_t paper_sheet(uint8_t *out, const int32_t *y, size_t n, uint64_t lambda, co
 /* what a sheet holds: 10, 1, 2, 11, 12, 4, 3, then 6 to 9 where a line is filed, or 0 */
 i64 paper_read(const uint8_t *s, size_t size, int32_t *y, Line *line);
 
+/* the sheet with its line, into `out` where there is room: the same refusals, then 5, or its number of bytes */
+i64 paper_complete(const uint8_t *s, size_t size, uint8_t *out, size_t room);
+
 /* whether these lists go into a sheet: 1, 2, 4, 3, then 6 to 9 unless both line lists are empty, or 0 */
 i64 paper_judge(const int32_t *y, size_t n, uint64_t lambda, const uint32_t *length, size_t lengths, const i64 *total, size_t totals);
 
