@@ -41,9 +41,6 @@ const void *hand(const void *entries, size_t bytes);
 /* that the area number i, counted from 0, begins with these entries after the call */
 void expect(int i, const void *entries, size_t bytes);
 
-/* memcpy, but that no bytes may come from nowhere */
-void copy(void *to, const void *from, size_t bytes);
-
 /* ---- the judgement */
 /* that the call's result and areas are what they must be; the areas are given back. Returns the result */
 i64 judge(i64 want, i64 got);

@@ -33,7 +33,7 @@ static i64 compare_read(const uint8_t *sheet, size_t size, const size_t room[4])
     static int32_t y[MOST];
     static Line line;
     handed = (Handed){.call = "sheet_read", .sheet = sheet, .size = size};
-    copy(handed.room, room, sizeof handed.room);
+    memcpy(handed.room, room, sizeof handed.room);
     int32_t *samples = lend(4 * room[0]);
     uint32_t *lengths = lend(4 * room[1]);
     i64 *totals = lend(8 * room[2]);
@@ -75,9 +75,7 @@ static i64 compare_write(const int32_t *y, size_t n, uint64_t lambda, const uint
     const i64 *total_in = hand(total, 8 * totals);
     i64 want = paper_judge(y, n, lambda, length, lengths, total, totals);
     if (want == 0) {
-        line.n = lengths;
-        copy(line.length, length, 4 * lengths);
-        copy(line.total, total, 8 * totals);
+        set_line(&line, length, total, lengths);
         want = (i64)paper_sheet(sheet, y, n, lambda, &line);
         if (room < (size_t)want)
             want = refusal(5, 0);
@@ -93,7 +91,7 @@ static i64 compare_segments(size_t n, const uint32_t *length, size_t lengths, co
     static uint32_t first[MOST], last[MOST];
     static double level[MOST];
     hand_line("chart_segments", n, length, lengths, total, totals);
-    copy(handed.room, room, 3 * sizeof room[0]);
+    memcpy(handed.room, room, 3 * sizeof room[0]);
     uint32_t *firsts = lend(4 * room[0]), *lasts = lend(4 * room[1]);
     double *levels = lend(8 * room[2]);
     const uint32_t *length_in = hand(length, 4 * lengths);
@@ -198,9 +196,7 @@ static void known(void)
     static Line line;
     for (size_t r = 0; r < KNOWN; r++) {
         const Known *k = &known_lines[r];
-        line.n = k->segments;
-        memcpy(line.length, k->length, sizeof k->length);
-        memcpy(line.total, k->total, sizeof k->total);
+        set_line(&line, k->length, k->total, k->segments);
         everywhere(k->y, k->n, k->lambda, &line);
         chart(k->n, &line, 1);
     }
@@ -237,32 +233,6 @@ static void close_levels(void)
 }
 
 /* ---- refusals, with those that come after them in the same call; the numbers are written by hand */
-static const struct {
-    size_t lengths, totals;
-    uint32_t length[3];
-    i64 total[3];
-    i64 number, place;
-} lines[] = {
-    /* for the samples 0, 0, 9, 9 and a smoothing of 1 */
-    {0, 0, {0}, {0}, 0, 0},
-    {2, 2, {2, 2}, {1, 17}, 0, 0},
-    {0, 2, {0}, {1, 17}, 6, 0},
-    {2, 0, {2, 2}, {0}, 6, 0},
-    {2, 1, {0, 2}, {1}, 6, 0},
-    {3, 3, {2, 0, 2}, {INT64_MAX, 0, 17}, 6, 2},
-    {3, 3, {0, 0, 3}, {0, 0, 0}, 6, 1},
-    {2, 2, {2, 1}, {INT64_MIN, 17}, 6, 0},
-    {3, 3, {UINT32_MAX, UINT32_MAX, 6}, {0, 0, 0}, 6, 0},
-    {2, 2, {2, 2}, {2 * LIMIT + 1, 2 * LIMIT + 1}, 7, 1},
-    {3, 3, {1, 1, 2}, {5, 5, -2 * LIMIT - 1}, 7, 3},
-    {2, 2, {2, 2}, {0, INT64_MIN}, 7, 2},
-    {3, 3, {1, 1, 2}, {3, 3, 6}, 8, 2},
-    {3, 3, {1, 1, 2}, {1, 3, 6}, 8, 3},
-    {2, 2, {2, 2}, {2, 16}, 9, 2},
-    {1, 1, {4}, {18}, 9, 1},
-    {2, 2, {2, 2}, {1, 16}, 9, 4},
-};
-enum { LINES = sizeof lines / sizeof lines[0] };
 static int32_t series[MOST + 1] = {0, 0, 9, 9};
 
 /* minutes 4, 0 or 65,537 */
@@ -272,13 +242,14 @@ static const size_t minutes[] = {4, 0, MOST + 1};
 static void writer_refusals(void)
 {
     for (int set = 0; set < 1 << 6; set++)
-        for (int l = 0; l < LINES; l++) {
-            size_t size = 32 + 4 * 4 + 12 * lines[l].lengths;
+        for (int l = 0; l < JUDGED; l++) {
+            const Judged *j = &judged_lines[l];
+            size_t size = 32 + 4 * 4 + 12 * j->lengths;
             i64 want = (i64)size;
             if (set & 32)
                 want = refusal(5, 0);
-            if (lines[l].number)
-                want = refusal(lines[l].number, lines[l].place);
+            if (j->number)
+                want = refusal(j->number, j->place);
             if (set & 16) {
                 series[3] = INT32_MIN;
                 want = refusal(3, 4);
@@ -294,7 +265,7 @@ static void writer_refusals(void)
             if (set & 1)
                 want = refusal(1, 0);
             size_t n = minutes[set & 1 ? 1 : set & 2], room = set & 32 ? size - 1 : size;
-            must(compare_write(series, n, set & 4 ? SMOOTHEST + 1 : 1, lines[l].length, lines[l].lengths, lines[l].total, lines[l].totals, room), want);
+            must(compare_write(series, n, set & 4 ? SMOOTHEST + 1 : 1, j->length, j->lengths, j->total, j->totals, room), want);
             series[1] = 0;
             series[3] = 9;
         }
@@ -309,12 +280,11 @@ static void reader_refusals(void)
     enum { FAULTS = sizeof faults / sizeof faults[0] };
     static Line line;
     for (int set = 0; set < 1 << FAULTS; set += guard ? 1 : 37)
-        for (int l = set & 1 << 10 ? 2 : 0; l < (set & 1 << 10 ? LINES : 2); l++) {
-            if (lines[l].lengths != lines[l].totals)
+        for (int l = set & 1 << 10 ? 2 : 0; l < (set & 1 << 10 ? JUDGED : 2); l++) {
+            const Judged *j = &judged_lines[l];
+            if (j->lengths != j->totals)
                 continue;
-            line.n = lines[l].lengths;
-            memcpy(line.length, lines[l].length, sizeof lines[l].length);
-            memcpy(line.total, lines[l].total, sizeof lines[l].total);
+            set_line(&line, j->length, j->total, j->lengths);
             series[2] = set & 1 << 9 ? -LIMIT - 1 : 9;
             memset(sheet, 0, 100);
             size_t n = 4, size = paper_sheet(sheet, series, n, set & 1 << 8 ? SMOOTHEST + 1 : 1, &line), handed_over = size;
@@ -342,7 +312,7 @@ static void reader_refusals(void)
             i64 want = (i64)line.n;
             for (int f = FAULTS; f-- > 0;)
                 if (set & 1 << f)
-                    want = f == 10 ? refusal(lines[l].number, lines[l].place) : refusal(faults[f].number, faults[f].place);
+                    want = f == 10 ? refusal(j->number, j->place) : refusal(faults[f].number, faults[f].place);
             int few = set & 1 << 11 ? 1 + l % 4 : 0;
             must(compare_read(sheet, handed_over, (size_t[]){n - (few == 1), n - (few == 2), n - (few == 3), 3 - (few == 4)}), want);
         }
@@ -351,14 +321,15 @@ static void reader_refusals(void)
 static void chart_refusals(void)
 {
     static const size_t asked[] = {0, 1, 2, 3, 4, 5, MOST + 1, SIZE_MAX};
-    for (int l = 1; l < LINES; l++)
+    for (int l = 1; l < JUDGED; l++)
         for (int many = 0; many < 3; many++) {
-            i64 line = lines[l].number == 9 ? 0 : lines[l].number, shape = many == 1 ? refusal(1, 0) : many ? refusal(2, 0) : line ? refusal(line, lines[l].place) : 0;
+            const Judged *j = &judged_lines[l];
+            i64 line = j->number == 9 ? 0 : j->number, shape = many == 1 ? refusal(1, 0) : many ? refusal(2, 0) : line ? refusal(line, j->place) : 0;
             for (size_t room = 0; room < 5; room++) {
-                i64 got = compare_segments(minutes[many], lines[l].length, lines[l].lengths, lines[l].total, lines[l].totals, (size_t[]){room, 4, 4});
-                must(got, shape ? shape : room < lines[l].lengths ? refusal(5, 0) : (i64)lines[l].lengths);
+                i64 got = compare_segments(minutes[many], j->length, j->lengths, j->total, j->totals, (size_t[]){room, 4, 4});
+                must(got, shape ? shape : room < j->lengths ? refusal(5, 0) : (i64)j->lengths);
                 for (int a = 0; a < 8; a++) {
-                    got = compare_mark(minutes[many], lines[l].length, lines[l].lengths, lines[l].total, lines[l].totals, asked[a], room);
+                    got = compare_mark(minutes[many], j->length, j->lengths, j->total, j->totals, asked[a], room);
                     must(got < 0 ? got : 0, shape ? shape : asked[a] < 1 || asked[a] > 4 ? refusal(13, 0) : room < 2 ? refusal(5, 0) : 0);
                 }
             }

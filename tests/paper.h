@@ -19,6 +19,9 @@ typedef struct {
 
 int same_line(const Line *a, const Line *b);
 
+/* the line of n segments; without any the lists may be NULL */
+void set_line(Line *line, const uint32_t *length, const i64 *total, size_t n);
+
 /* minus (256 times the place, plus the number) */
 i64 refusal(i64 number, i64 place);
 
@@ -48,6 +51,16 @@ typedef struct {
     i64 total[3];
 } Known;
 extern const Known known_lines[KNOWN];
+
+/* lines for the samples 0, 0, 9, 9 and a smoothing of 1, with the refusals 6 to 9 written by hand: none, the right one, then wrong ones */
+enum { JUDGED = 17 };
+typedef struct {
+    size_t lengths, totals;
+    uint32_t length[3];
+    i64 total[3];
+    i64 number, place;
+} Judged;
+extern const Judged judged_lines[JUDGED];
 
 /* ---- the sheet */
 /* no sheet is longer */
