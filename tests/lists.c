@@ -9,6 +9,7 @@
  *
  * Seeds are fixed. A difference prints the seed and what was handed over. */
 #define _GNU_SOURCE
+#include <signal.h>
 #include <stdio.h>
 #include <stdlib.h>
 #include <string.h>
@@ -18,6 +19,9 @@
 #include "../include/dawhikura.h"
 #include "harness.h"
 #include "random.h"
+
+/* the stack that the header names: for sheets of up to SMALL minutes, for longer ones, and for the calls on lists */
+enum { SMALL = 1024, SMALL_STACK = (1 << 20) + 16384, LARGE_STACK = (1 << 20) + 16384, LIST_STACK = 16384 };
 
 static uint64_t state;
 static unsigned long reads, writes, segments, marks, completed;
@@ -442,60 +446,134 @@ static void random_sheets(void)
     random_lists();
 }
 
-/* ---- the stack that the header names, with nothing below it */
-static ucontext_t here, there;
-
+/* ---- the stack that the header names */
+/* with nothing below it for as far as a call may reach */
 static void on_stack(size_t bytes, void (*calls)(void))
 {
-    enum { PAGE = 4096 };
-    uint8_t *p = mmap(NULL, PAGE + bytes, PROT_READ | PROT_WRITE, MAP_PRIVATE | MAP_ANONYMOUS, -1, 0);
-    if (p == MAP_FAILED || mprotect(p, PAGE, PROT_NONE) || getcontext(&there)) {
+    enum { BELOW = 4 << 20 };
+    static ucontext_t here, there;
+    uint8_t *p = mmap(NULL, BELOW + bytes, PROT_READ | PROT_WRITE, MAP_PRIVATE | MAP_ANONYMOUS, -1, 0);
+    if (p == MAP_FAILED || mprotect(p, BELOW, PROT_NONE) || getcontext(&there)) {
         printf("no stack to test with\n");
         exit(1);
     }
-    there.uc_stack.ss_sp = p + PAGE;
+    there.uc_stack.ss_sp = p + BELOW;
     there.uc_stack.ss_size = bytes;
     there.uc_link = &here;
     makecontext(&there, calls, 0);
     swapcontext(&here, &there);
-    munmap(p, PAGE + bytes);
+    munmap(p, BELOW + bytes);
+}
+
+/* The stack pointer, looked at after each instruction: it also tells of memory that is set aside and not touched. */
+static volatile int following;
+static uintptr_t lowest;
+static size_t small_stack;
+
+static void look(int number, siginfo_t *info, void *context)
+{
+    enum { TRAP = 256 }; /* the flag that makes the processor stop after the next instruction */
+    greg_t *registers = ((ucontext_t *)context)->uc_mcontext.gregs;
+    (void)number;
+    (void)info;
+    if ((uintptr_t)registers[REG_RSP] < lowest)
+        lowest = (uintptr_t)registers[REG_RSP];
+    if (following)
+        registers[REG_EFL] |= TRAP;
+    else
+        registers[REG_EFL] &= ~TRAP;
+}
+
+/* how far it falls, and the 128 bytes below it that a function may use */
+static size_t fall(void (*calls)(void))
+{
+    uintptr_t top = (uintptr_t)__builtin_frame_address(0);
+    lowest = top;
+    sigaction(SIGTRAP, &(struct sigaction){.sa_sigaction = look, .sa_flags = SA_SIGINFO}, NULL);
+    following = 1;
+    raise(SIGTRAP);
+    calls();
+    following = 0;
+    return top - lowest + 128;
 }
 
 static int32_t stack_y[MOST], stack_samples[MOST];
 static Line stack_line;
-static i64 stack_totals[MOST], answers[8];
+static dawhikura_segment stack_records[MOST];
+static i64 stack_totals[MOST], answers[7];
 static uint32_t stack_lengths[MOST], stack_lasts[MOST];
 static double stack_levels[MOST];
 
-static void small_calls(void)
+static void list_calls(void)
 {
+    size_t m = stack_line.n;
     answers[0] = series_line(stack_y, MOST, 50, stack_lengths, MOST, stack_totals, MOST);
     answers[1] = series_balances(stack_y, MOST, 50, stack_totals, MOST);
-    answers[2] = series_check(stack_y, MOST, 50, stack_line.length, stack_line.n, stack_line.total, stack_line.n);
-    answers[3] = chart_segments(MOST, stack_line.length, stack_line.n, stack_line.total, stack_line.n, stack_lengths, MOST, stack_lasts, MOST, stack_levels, MOST);
-    answers[4] = chart_mark(MOST, stack_line.length, stack_line.n, stack_line.total, stack_line.n, MOST, stack_levels, 2);
-    answers[5] = sheet_write(stack_y, MOST, 50, stack_line.length, stack_line.n, stack_line.total, stack_line.n, sheet, SHEET);
+    answers[2] = series_check(stack_y, MOST, 50, stack_line.length, m, stack_line.total, m);
+    answers[3] = series_check_segments(stack_y, MOST, 50, stack_records, m);
+    answers[4] = chart_segments(MOST, stack_line.length, m, stack_line.total, m, stack_lengths, MOST, stack_lasts, MOST, stack_levels, MOST);
+    answers[5] = chart_mark(MOST, stack_line.length, m, stack_line.total, m, MOST, stack_levels, 2);
+    answers[6] = sheet_write(stack_y, MOST, 50, stack_line.length, m, stack_line.total, m, sheet, SHEET);
 }
 
-static void large_calls(void)
+/* the sheet with its line read, with too few fields too, and completed; then completed without its line */
+static void sheet_calls(void)
 {
     uint64_t fields[3];
-    answers[6] = sheet_read(sheet, (size_t)answers[5], stack_samples, MOST, stack_lengths, MOST, stack_totals, MOST, fields, 3);
+    size_t n = get(sheet, 4), m = get(sheet + 4, 4), size = get(sheet + 24, 4);
+    answers[0] = sheet_read(sheet, size, stack_samples, n, stack_lengths, n, stack_totals, n, fields, 3);
+    answers[1] = sheet_read(sheet, size, stack_samples, n, stack_lengths, n, stack_totals, n, fields, 2);
+    answers[2] = sheet_complete(sheet, size, other, SHEET);
     put(sheet + 4, 4, 0);
-    put(sheet + 24, 4, 32 + 4 * MOST);
-    answers[7] = sheet_complete(sheet, 32 + 4 * MOST, other, SHEET);
+    put(sheet + 24, 4, 32 + 4 * n);
+    answers[3] = sheet_complete(sheet, 32 + 4 * n, other, SHEET);
+    put(sheet + 4, 4, m);
+    put(sheet + 24, 4, size);
+}
+
+static void sheet_of(size_t n)
+{
+    paper_line_long(stack_y, n, 50, &stack_line);
+    paper_sheet(sheet, stack_y, n, 50, &stack_line);
+}
+
+static void answered(const i64 *want, int count)
+{
+    for (int i = 0; i < count; i++)
+        must(answers[i], want[i]);
+}
+
+static void sheet_answered(void)
+{
+    i64 m = (i64)get(sheet + 4, 4), size = (i64)get(sheet + 24, 4);
+    answered((i64[]){m, refusal(5, 0), size, size}, 4);
 }
 
 static void stacks(void)
 {
     for (size_t i = 0; i < MOST; i++)
         stack_y[i] = random_sample(&state, 1);
-    paper_line_long(stack_y, MOST, 50, &stack_line);
-    on_stack(16384, small_calls);
-    on_stack((1 << 20) + 16384, large_calls);
-    i64 m = (i64)stack_line.n, size = 32 + 4 * MOST + 12 * m, want[] = {m, MOST, 0, m, 0, size, m, size};
-    for (int i = 0; i < 8; i++)
-        must(answers[i], want[i]);
+    sheet_of(MOST);
+    on_stack(LARGE_STACK, sheet_calls);
+    sheet_answered();
+    for (size_t s = 0; s < stack_line.n; s++) {
+        stack_records[s].length = stack_line.length[s];
+        stack_records[s].total = stack_line.total[s];
+    }
+    i64 m = (i64)stack_line.n;
+    on_stack(LIST_STACK, list_calls);
+    answered((i64[]){m, MOST, 0, 0, m, 0, 32 + 4 * MOST + 12 * m}, 7);
+    /* what is set aside for a sheet of one minute is set aside for all small ones */
+    sheet_of(1);
+    small_stack = fall(sheet_calls);
+    sheet_answered();
+    if (small_stack > SMALL_STACK) {
+        printf("a sheet of one minute takes %zu bytes of stack\n", small_stack);
+        exit(1);
+    }
+    sheet_of(SMALL);
+    on_stack(SMALL_STACK, sheet_calls);
+    sheet_answered();
 }
 
 int main(int argc, char **argv)
@@ -515,7 +593,7 @@ int main(int argc, char **argv)
     long_series();
     if (guard)
         stacks();
-    printf("reads %lu writes %lu charts %lu marks %lu completed %lu", reads, writes, segments, marks, completed);
+    printf("reads %lu writes %lu charts %lu marks %lu completed %lu stack of small sheets %zu", reads, writes, segments, marks, completed, small_stack);
     print_refused();
     printf(": all agree\n");
     return 0;
