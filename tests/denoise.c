@@ -296,15 +296,10 @@ static void check_refusals(void)
                     y[k - 1] = far[(set + l + k) % 4];
                     expected = refusal(3, k);
                 }
-            if (set & 4)
-                expected = refusal(4, 0);
-            if (set & 2)
-                expected = refusal(2, 0);
-            if (set & 1)
-                expected = refusal(1, 0);
+            i64 limit = set & 1 ? refusal(1, 0) : set & 2 ? refusal(2, 0) : set & 4 ? refusal(4, 0) : 0;
             size_t n = set & 1 ? 0 : set & 2 ? MOST + 1 : 4;
             uint64_t lambda = !(set & 4) ? 1 : l % 2 ? SMOOTHEST + 1 : UINT64_MAX;
-            must(compare_check(y, n, lambda, j->length, j->lengths, j->total, j->totals), expected);
+            must(compare_check(y, n, lambda, j->length, j->lengths, j->total, j->totals), limit ? limit : expected);
         }
     /* one minute more than there may be, and nothing else wrong */
     memset(y, 0, sizeof y);
@@ -341,7 +336,6 @@ int main(int argc, char **argv)
         random_lists();
     long_series();
     printf("lines %lu balances %lu checks %lu over records %lu passed %lu", lines, balance_runs, checks, records, passed);
-    print_refused();
-    printf(": all agree\n");
+    print_agreed();
     return 0;
 }

@@ -113,10 +113,11 @@ void must(i64 got, i64 want)
     }
 }
 
-void print_refused(void)
+void print_agreed(void)
 {
     printf(" refused");
     for (int i = 0; i < 256; i++)
         if (numbers[i])
             printf(" %d:%lu", i, numbers[i]);
+    printf(": all agree\n");
 }

@@ -48,7 +48,7 @@ i64 judge(i64 want, i64 got);
 /* that a call, just compared with the paper's implementation, got what is written by hand */
 void must(i64 got, i64 want);
 
-/* how often each refusal was met */
-void print_refused(void);
+/* the end of a test's line of counts: how often each refusal was met, and that all agree */
+void print_agreed(void);
 
 #endif

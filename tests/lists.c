@@ -468,7 +468,6 @@ static void on_stack(size_t bytes, void (*calls)(void))
 /* The stack pointer, looked at after each instruction: it also tells of memory that is set aside and not touched. */
 static volatile int following;
 static uintptr_t lowest;
-static size_t small_stack;
 
 static void look(int number, siginfo_t *info, void *context)
 {
@@ -563,12 +562,13 @@ static void stacks(void)
     i64 m = (i64)stack_line.n;
     on_stack(LIST_STACK, list_calls);
     answered((i64[]){m, MOST, 0, 0, m, 0, 32 + 4 * MOST + 12 * m}, 7);
-    /* what is set aside for a sheet of one minute is set aside for all small ones */
+    /* one minute will do, and does not take long: what is set aside is the same for all small sheets */
     sheet_of(1);
-    small_stack = fall(sheet_calls);
+    size_t bytes = fall(sheet_calls);
     sheet_answered();
-    if (small_stack > SMALL_STACK) {
-        printf("a sheet of one minute takes %zu bytes of stack\n", small_stack);
+    printf("stack of small sheets %zu ", bytes);
+    if (bytes > SMALL_STACK) {
+        printf("is more than %d\n", SMALL_STACK);
         exit(1);
     }
     sheet_of(SMALL);
@@ -593,8 +593,7 @@ int main(int argc, char **argv)
     long_series();
     if (guard)
         stacks();
-    printf("reads %lu writes %lu charts %lu marks %lu completed %lu stack of small sheets %zu", reads, writes, segments, marks, completed, small_stack);
-    print_refused();
-    printf(": all agree\n");
+    printf("reads %lu writes %lu charts %lu marks %lu completed %lu", reads, writes, segments, marks, completed);
+    print_agreed();
     return 0;
 }

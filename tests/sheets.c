@@ -103,7 +103,6 @@ int main(int argc, char **argv)
     }
     long_sheets();
     printf("sheets %lu calls %lu completed %lu", sheets, calls, completed);
-    print_refused();
-    printf(": all agree\n");
+    print_agreed();
     return 0;
 }
