@@ -25,16 +25,19 @@ static double now(void)
     return (double)t.tv_sec * 1e9 + (double)t.tv_nsec;
 }
 
-/* The best time of each of `count` tasks, in ns: they take turns for half a second, each at least once and at most 1,000 times. `judge` sees each
- * result of the first turn. */
+/* The best time of each of `count` tasks, in ns: they take turns for half a second, each at least once and at most 1,000 times. A turn on a short series
+ * is many calls, since the clock takes time too. `judge` sees each result of the first turn. */
 static void measure(int count, int64_t (*task)(int), void (*judge)(int, int64_t), double *best)
 {
     double end = now() + 5e8;
+    size_t calls = n < 1440 ? 1440 / n : 1;
     for (int round = 0; round == 0 || (round < 1000 && now() < end); round++)
         for (int i = 0; i < count; i++) {
+            int64_t r = 0;
             double t = now();
-            int64_t r = task(i);
-            t = now() - t;
+            for (size_t c = 0; c < calls; c++)
+                r = task(i);
+            t = (now() - t) / (double)calls;
             if (round == 0)
                 judge(i, r);
             if (round == 0 || t < best[i])
@@ -230,7 +233,7 @@ static void ramp_rows(void)
 
 int main(void)
 {
-    static const size_t sizes[] = {1440, 44640, MOST};
+    static const size_t sizes[] = {1440, 44640, MOST}, sheets[] = {60, 44640, MOST};
     printf("%-32s %-35s ours over\n", "line", "ns a minute");
     printf("input           minutes segments   ours  clang    gcc string Condat   clang    gcc string Condat\n");
     for (int s = 0; s < 3; s++) {
@@ -243,8 +246,8 @@ int main(void)
     }
     printf("\n%-32s %-14s ours over\n", "whole sheets, noise, L = 100", "ns a minute");
     printf("task            minutes segments   ours memcpy  memcpy   line\n");
-    for (int s = 1; s < 3; s++) {
-        n = sizes[s];
+    for (int s = 0; s < 3; s++) {
+        n = sheets[s];
         noise(100);
         line.n = (size_t)draw(OURS);
         sheet_rows();

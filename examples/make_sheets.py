@@ -1,5 +1,6 @@
 #!/usr/bin/env python3
-"""Writes the example sheets beside this file. The noise is a fixed sequence, so every run writes the same bytes.
+"""Writes the example sheets beside this file; with --check only sees that they are those. The noise is a fixed sequence, so every run writes the same
+bytes.
 
     small.sheet          (0, 10) with smoothing 1, no line filed
     small_line.sheet     the same with its line, (1, 1)(1, 9)
@@ -13,6 +14,7 @@
 """
 import pathlib
 import struct
+import sys
 
 
 def sheet(samples, smoothing, line=(), last_field=0):
@@ -53,5 +55,10 @@ sheets = {
     "far_sample": sheet([0, 16777217], 1),
     "cut": small[:31],
 }
+here = pathlib.Path(__file__).parent
+if "--check" in sys.argv:
+    good = {path.stem: path.read_bytes() for path in here.glob("*.sheet")} == sheets
+    print(f"examples: {len(sheets)} sheets" + ("" if good else "; the files differ"))
+    sys.exit(0 if good else 1)
 for name, content in sheets.items():
-    (pathlib.Path(__file__).parent / f"{name}.sheet").write_bytes(content)
+    (here / f"{name}.sheet").write_bytes(content)

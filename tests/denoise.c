@@ -1,91 +1,82 @@
-/* Compares line, balances and check, through their C entries, with implementations written from the paper alone: every pattern of rises and
- * falls for short series, a taut string with two hulls for long ones, the conditions minute by minute for checks. Prints one line of counts,
- * or the first input on which they differ. */
-#include <inttypes.h>
+/* Compares line, balances and the two checks, through their C entries, with implementations written from the paper alone: every pattern of rises and
+ * falls for short series, a taut string with two hulls for long ones, the conditions minute by minute for checks. Every refusal beside those that come
+ * after it. Prints one line of counts, or the first input on which they differ.
+ *
+ *     denoise [COUNT [GUARD]]      COUNT lists of any shape (default 200000)
+ *
+ * Each call gets areas of its own with GUARD bytes (default 64) around them (harness.h). With GUARD 0, for a run under valgrind, fewer short series and
+ * sets of refusals are tried. */
 #include <stdio.h>
-#include <stdlib.h>
 #include <string.h>
 
 #include "../include/dawhikura.h"
-#include "paper.h"
+#include "harness.h"
 #include "random.h"
 
 typedef __int128 wide;
 
-static unsigned long lines, balance_runs, checks, passed;
-
-/* ---- what went wrong, with the input */
-static void fail(const char *what, const int32_t *y, size_t n, uint64_t lambda, const Line *line)
-{
-    printf("%s: smoothing %" PRIu64 ", %zu samples", what, lambda, n);
-    for (size_t i = 0; i < n && i < 64; i++)
-        printf(" %" PRId32, y[i]);
-    if (line) {
-        printf(", line");
-        for (size_t i = 0; i < line->n && i < 64; i++)
-            printf(" (%" PRIu32 ", %" PRId64 ")", line->length[i], line->total[i]);
-    }
-    printf("\n");
-    exit(1);
-}
+static unsigned long lines, balance_runs, checks, records, passed;
 
 /* ---- the comparisons */
-static Line want, got;
-static i64 duals[MOST + 8];
+static Line want;
+
+/* the line is the one handed over, or the expected one */
+static void hand_series(const char *call, const int32_t *y, size_t n, uint64_t lambda, const Line *line)
+{
+    handed = (Handed){.call = call, .y = y, .minutes = n, .lambda = lambda, .length = line->length, .lengths = line->n, .total = line->total,
+                      .totals = line->n};
+}
 
 static void compare_line(const int32_t *y, size_t n, uint64_t lambda, const Line *expected)
 {
-    size_t room = n + 3 < MOST ? n + 3 : MOST;
-    for (size_t i = 0; i < room; i++) {
-        got.length[i] = 0xabcdef01u + (uint32_t)i;
-        got.total[i] = -7 - (i64)i;
-    }
-    i64 m = series_line(y, n, lambda, got.length, room, got.total, n);
+    hand_series("series_line", y, n, lambda, expected);
+    uint32_t *lengths = lend(4 * (n + 3));
+    i64 *totals = lend(8 * n);
+    expect(0, expected->length, 4 * expected->n);
+    expect(1, expected->total, 8 * expected->n);
     lines++;
-    if (m != (i64)expected->n)
-        fail("another number of segments", y, n, lambda, expected);
-    got.n = (size_t)m;
-    if (!same_line(&got, expected))
-        fail("another line", y, n, lambda, expected);
-    for (size_t i = got.n; i < room; i++)
-        if (got.length[i] != 0xabcdef01u + (uint32_t)i || got.total[i] != -7 - (i64)i)
-            fail("an entry past the line was touched", y, n, lambda, expected);
+    judge((i64)expected->n, series_line(hand(y, 4 * n), n, lambda, lengths, n + 3, totals, n));
 }
 
 static void compare_balances(const int32_t *y, size_t n, uint64_t lambda, const Line *line)
 {
-    for (size_t i = 0; i < n + 8; i++)
-        duals[i] = -99 - (i64)i;
-    balance_runs++;
-    if (series_balances(y, n, lambda, duals, n + 8) != (i64)n)
-        fail("another number of balances", y, n, lambda, line);
+    static i64 duals[MOST];
+    hand_series("series_balances", y, n, lambda, line);
     size_t k = 0;
     i64 u = 0;
     for (size_t s = 0; s < line->n; s++) {
         i64 sum = 0;
         for (uint32_t i = 0; i < line->length[s]; i++, k++) {
             sum += y[k];
-            wide v = (wide)line->length[s] * (u + sum) - (wide)(i + 1) * line->total[s];
-            if ((wide)duals[k] != v)
-                fail("another balance", y, n, lambda, line);
+            duals[k] = (i64)((wide)line->length[s] * (u + sum) - (wide)(i + 1) * line->total[s]);
         }
         u += sum - line->total[s];
     }
-    for (size_t i = n; i < n + 8; i++)
-        if (duals[i] != -99 - (i64)i)
-            fail("a balance past the last was touched", y, n, lambda, line);
+    i64 *out = lend(8 * (n + 8));
+    expect(0, duals, 8 * n);
+    balance_runs++;
+    judge((i64)n, series_balances(hand(y, 4 * n), n, lambda, out, n + 8));
 }
 
-static void compare_check(const int32_t *y, size_t n, uint64_t lambda, const Line *line, size_t totals)
+/* the check of two lists and, where they have one length, of the records that hold them */
+static i64 compare_check(const int32_t *y, size_t n, uint64_t lambda, const uint32_t *length, size_t lengths, const i64 *total, size_t totals)
 {
-    i64 expected = paper_check(y, n, lambda, line->length, line->n, line->total, totals);
-    i64 r = series_check(y, n, lambda, line->length, line->n, line->total, totals);
+    static dawhikura_segment segments[MOST];
+    handed = (Handed){.call = "series_check", .y = y, .minutes = n, .lambda = lambda, .length = length, .lengths = lengths, .total = total, .totals = totals};
+    i64 expected = paper_check(y, n, lambda, length, lengths, total, totals);
     checks++;
-    passed += r == 0;
-    if (r != expected) {
-        printf("expected %" PRId64 ", got %" PRId64 ": ", expected, r);
-        fail("another answer of the check", y, n, lambda, line);
+    passed += expected == 0;
+    judge(expected, series_check(hand(y, 4 * n), n, lambda, hand(length, 4 * lengths), lengths, hand(total, 8 * totals), totals));
+    if (lengths == totals) {
+        handed.call = "series_check_segments";
+        for (size_t s = 0; s < lengths; s++) {
+            segments[s].length = length[s];
+            segments[s].total = total[s];
+        }
+        records++;
+        judge(expected, series_check_segments(hand(y, 4 * n), n, lambda, hand(segments, lengths * sizeof segments[0]), lengths));
     }
+    return expected;
 }
 
 static uint64_t state = 0x9e3779b97f4a7c15u;
@@ -100,9 +91,7 @@ static void compare_changed(const int32_t *y, size_t n, uint64_t lambda, const L
 {
     static Line c;
     for (int r = 0; r < rounds; r++) {
-        c.n = line->n;
-        memcpy(c.length, line->length, line->n * sizeof c.length[0]);
-        memcpy(c.total, line->total, line->n * sizeof c.total[0]);
+        set_line(&c, line->length, line->total, line->n);
         size_t s = next() % c.n;
         size_t totals = c.n;
         switch (next() % 10) {
@@ -139,33 +128,42 @@ static void compare_changed(const int32_t *y, size_t n, uint64_t lambda, const L
                 totals--;
             }
         }
-        compare_check(y, n, lambda, &c, totals);
+        compare_check(y, n, lambda, c.length, c.n, c.total, totals);
     }
+}
+
+/* the line as it is, then changed */
+static void compare_checks(const int32_t *y, size_t n, uint64_t lambda, const Line *line, i64 expected, int rounds)
+{
+    must(compare_check(y, n, lambda, line->length, line->n, line->total, line->n), expected);
+    compare_changed(y, n, lambda, line, rounds);
 }
 
 static void compare_all(const int32_t *y, size_t n, uint64_t lambda, const Line *line, int rounds)
 {
     compare_line(y, n, lambda, line);
     compare_balances(y, n, lambda, line);
-    compare_check(y, n, lambda, line, line->n);
-    compare_changed(y, n, lambda, line, rounds);
+    compare_checks(y, n, lambda, line, 0, rounds);
 }
 
-/* ---- paper 01's table of known lines */
+/* ---- series of up to 6 minutes: paper 01's table of known lines, then every series over a few values, with several smoothings */
+static void compare_short(const int32_t *y, size_t n, uint64_t lambda, const Line *line, int rounds)
+{
+    static Line tried;
+    hand_series("every pattern", y, n, lambda, line);
+    if (!paper_line_short(y, n, lambda, &tried) || !same_line(&tried, line))
+        fail("another line");
+    compare_all(y, n, lambda, line, rounds);
+}
+
 static void known(void)
 {
-    static Line line;
-    for (size_t r = 0; r < KNOWN; r++) {
-        line.n = known_lines[r].segments;
-        memcpy(line.length, known_lines[r].length, sizeof known_lines[r].length);
-        memcpy(line.total, known_lines[r].total, sizeof known_lines[r].total);
-        if (!paper_line_short(known_lines[r].y, known_lines[r].n, known_lines[r].lambda, &want) || !same_line(&want, &line))
-            fail("a known line", known_lines[r].y, known_lines[r].n, known_lines[r].lambda, &line);
-        compare_all(known_lines[r].y, known_lines[r].n, known_lines[r].lambda, &line, 50);
+    for (const Known *k = known_lines; k < known_lines + KNOWN; k++) {
+        set_line(&want, k->length, k->total, k->segments);
+        compare_short(k->y, k->n, k->lambda, &want, 50);
     }
 }
 
-/* ---- every series of 1 to 6 minutes over a few values, with several smoothings */
 static void exhaustive(void)
 {
     static const int32_t values[] = {0, 1, 5, -3};
@@ -174,23 +172,37 @@ static void exhaustive(void)
         size_t count = 1;
         for (size_t i = 0; i < n; i++)
             count *= 4;
-        for (size_t c = 0; c < count; c++) {
+        for (size_t c = 0; c < count; c += guard ? 1 : 37) {
             int32_t y[6];
             size_t rest = c;
             for (size_t i = 0; i < n; i++, rest /= 4)
                 y[i] = values[rest % 4];
             for (size_t l = 0; l < 5; l++) {
-                static Line string;
-                paper_line_long(y, n, lambdas[l], &string);
-                if (!paper_line_short(y, n, lambdas[l], &want) || !same_line(&want, &string))
-                    fail("the two implementations differ", y, n, lambdas[l], &want);
-                compare_line(y, n, lambdas[l], &want);
-                compare_balances(y, n, lambdas[l], &want);
-                compare_check(y, n, lambdas[l], &want, want.n);
-                compare_changed(y, n, lambdas[l], &want, 2);
+                paper_line_long(y, n, lambdas[l], &want);
+                compare_short(y, n, lambdas[l], &want, 2);
             }
         }
     }
+}
+
+/* ---- samples beyond the limits */
+static const int32_t far[] = {LIMIT + 1, -LIMIT - 1, INT32_MAX, INT32_MIN};
+
+/* at each minute of three plateaus: the first and the last, inside a segment, before and after a break; with the line without it, with the line that is
+ * right but for it, and with lines that are wrong before and after it */
+static void far_samples(void)
+{
+    static const uint64_t lambdas[] = {0, 1, SMOOTHEST};
+    for (int l = 0; l < 3; l++)
+        for (int f = 0; f < 4; f++)
+            for (int k = 0; k < 9; k++) {
+                int32_t y[] = {0, 0, 0, 9, 9, 9, 0, 0, 0};
+                paper_line_long(y, 9, lambdas[l], &want);
+                y[k] = far[f];
+                compare_checks(y, 9, lambdas[l], &want, refusal(3, k + 1), 20);
+                paper_line_long(y, 9, lambdas[l], &want);
+                compare_checks(y, 9, lambdas[l], &want, refusal(3, k + 1), 20);
+            }
 }
 
 /* ---- long series */
@@ -224,26 +236,27 @@ static void long_series(void)
             for (size_t l = 0; l < sizeof lambdas / sizeof lambdas[0]; l++) {
                 paper_line_long(y, n, lambdas[l], &want);
                 compare_all(y, n, lambdas[l], &want, 3);
+                size_t k = next() % n;
+                int32_t was = y[k];
+                y[k] = far[next() % 4];
+                compare_checks(y, n, lambdas[l], &want, refusal(3, (i64)k + 1), 1);
+                y[k] = was;
             }
         }
 }
 
-/* ---- refusals, and that they touch nothing */
+/* ---- refusals of line and balances, and that they touch nothing */
 static void refuse(const int32_t *y, size_t n, uint64_t lambda, size_t lengths, size_t totals, i64 expected)
 {
-    static uint32_t l[MOST + 2];
-    static i64 t[MOST + 2];
-    memset(l, 0x5a, sizeof l);
-    memset(t, 0x5a, sizeof t);
-    i64 r = series_line(y, n, lambda, l, lengths, t, totals);
-    i64 b = series_balances(y, n, lambda, t, lengths < totals ? lengths : totals);
+    size_t least = lengths < totals ? lengths : totals;
+    handed = (Handed){.call = "series_line", .y = y, .minutes = n, .lambda = lambda, .room = {lengths, totals}};
+    uint32_t *length = lend(4 * lengths);
+    i64 *total = lend(8 * totals);
     lines++;
+    judge(expected, series_line(hand(y, 4 * n), n, lambda, length, lengths, total, totals));
+    handed.call = "series_balances";
     balance_runs++;
-    if (r != expected || b != expected)
-        fail("another refusal", y, n, lambda, NULL);
-    for (size_t i = 0; i < MOST + 2; i++)
-        if (l[i] != 0x5a5a5a5au || t[i] != 0x5a5a5a5a5a5a5a5a)
-            fail("a refused call touched a list", y, n, lambda, NULL);
+    judge(expected, series_balances(hand(y, 4 * n), n, lambda, lend(8 * least), least));
 }
 
 static void refusals(void)
@@ -266,29 +279,63 @@ static void refusals(void)
     y[1] = 10;
     refuse(y, 2, 1, 1, 2, refusal(5, 0));
     refuse(y, 2, 1, 2, 1, refusal(5, 0));
-    /* lists of no shape: any lengths and totals, any counts */
-    for (int r = 0; r < 200000; r++) {
-        static Line c;
-        size_t n = next() % 6;
-        int32_t s[6];
-        for (size_t i = 0; i < n; i++)
-            s[i] = (int32_t)(next() % 5);
-        c.n = next() % 5;
-        for (size_t i = 0; i < 5; i++) {
-            c.length[i] = (uint32_t)(next() % 4);
-            c.total[i] = (i64)(next() % 9);
-        }
-        uint64_t lambda = next() % 4;
-        compare_check(s, n, lambda, &c, next() % 8 ? c.n : next() % 5);
-    }
 }
 
-int main(void)
+/* ---- refusals of the check, with those that come after them in the same call; the numbers are written by hand */
+/* each bit of a set is a fault, in the check's order: 1, 2, 4, 3 at each minute, the line's */
+static void check_refusals(void)
 {
+    static int32_t y[MOST + 1];
+    for (int set = 0; set < 1 << 7; set += guard ? 1 : 5)
+        for (int l = 0; l < JUDGED; l++) {
+            const Judged *j = &judged_lines[l];
+            i64 expected = j->lengths ? refusal(j->number, j->place) : refusal(6, 0);
+            memcpy(y, (int32_t[]){0, 0, 9, 9}, 16);
+            for (int k = 4; k > 0; k--)
+                if (set & 4 << k) {
+                    y[k - 1] = far[(set + l + k) % 4];
+                    expected = refusal(3, k);
+                }
+            i64 limit = set & 1 ? refusal(1, 0) : set & 2 ? refusal(2, 0) : set & 4 ? refusal(4, 0) : 0;
+            size_t n = set & 1 ? 0 : set & 2 ? MOST + 1 : 4;
+            uint64_t lambda = !(set & 4) ? 1 : l % 2 ? SMOOTHEST + 1 : UINT64_MAX;
+            must(compare_check(y, n, lambda, j->length, j->lengths, j->total, j->totals), limit ? limit : expected);
+        }
+    /* one minute more than there may be, and nothing else wrong */
+    memset(y, 0, sizeof y);
+    y[MOST] = 9;
+    must(compare_check(y, MOST + 1, 0, (uint32_t[]){MOST, 1}, 2, (i64[]){0, 9}, 2), refusal(2, 0));
+}
+
+/* lists of any shape: any lengths and totals, any counts */
+static void random_lists(void)
+{
+    int32_t y[6];
+    uint32_t length[5];
+    i64 total[5];
+    size_t n = next() % 6, lengths = next() % 5, totals = next() % 8 ? lengths : next() % 5;
+    for (size_t i = 0; i < n; i++)
+        y[i] = next() % 64 ? (int32_t)(next() % 5) : far[next() % 4];
+    for (size_t i = 0; i < 5; i++) {
+        length[i] = (uint32_t)(next() % 4);
+        total[i] = (i64)(next() % 9);
+    }
+    uint64_t lambda = next() % 64 ? next() % 4 : SMOOTHEST + next() % 2;
+    compare_check(y, n, lambda, length, lengths, total, totals);
+}
+
+int main(int argc, char **argv)
+{
+    unsigned long count = arguments(argc, argv, 200000);
     known();
     exhaustive();
+    far_samples();
     refusals();
+    check_refusals();
+    for (unsigned long i = 0; i < count; i++)
+        random_lists();
     long_series();
-    printf("lines %lu balances %lu checks %lu (%lu passed): all agree\n", lines, balance_runs, checks, passed);
+    printf("lines %lu balances %lu checks %lu over records %lu passed %lu", lines, balance_runs, checks, records, passed);
+    print_agreed();
     return 0;
 }

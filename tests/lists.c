@@ -4,12 +4,12 @@
  *
  *     lists [COUNT [GUARD]]      COUNT random sheets (default 40000)
  *
- * Each call gets areas of its own from malloc, with GUARD bytes (default 64) before and after that must stay as they are. With GUARD 0 the areas are
- * exactly as long as the call is told, fewer sets of refusals are tried and no stack: for a run under valgrind.
+ * Each call gets areas of its own with GUARD bytes (default 64) around them (harness.h). With GUARD 0, for a run under valgrind, fewer sets of refusals
+ * are tried and no stack.
  *
  * Seeds are fixed. A difference prints the seed and what was handed over. */
 #define _GNU_SOURCE
-#include <inttypes.h>
+#include <signal.h>
 #include <stdio.h>
 #include <stdlib.h>
 #include <string.h>
@@ -17,119 +17,18 @@
 #include <ucontext.h>
 
 #include "../include/dawhikura.h"
-#include "paper.h"
+#include "harness.h"
 #include "random.h"
 
-static size_t guard = 64;
-static uint64_t seed, state;
-static unsigned long reads, writes, segments, marks, completed, numbers[256];
+/* the stack that the header names: for sheets of up to SMALL minutes, for longer ones, and for the calls on lists */
+enum { SMALL = 1024, SMALL_STACK = (1 << 20) + 16384, LARGE_STACK = (1 << 20) + 16384, LIST_STACK = 16384 };
+
+static uint64_t state;
+static unsigned long reads, writes, segments, marks, completed;
 
 static uint64_t next(void)
 {
     return next_number(&state);
-}
-
-/* ---- what is handed over, for the message */
-static struct {
-    const char *call;
-    const uint8_t *sheet;
-    size_t size;
-    const int32_t *y;
-    size_t minutes;
-    uint64_t lambda;
-    const uint32_t *length;
-    size_t lengths;
-    const i64 *total;
-    size_t totals, minute, room[4];
-} handed;
-
-static void fail(const char *what)
-{
-    printf("%s: %s, seed %" PRIu64 ", room %zu %zu %zu %zu", handed.call, what, seed, handed.room[0], handed.room[1], handed.room[2], handed.room[3]);
-    if (handed.sheet) {
-        printf(", sheet of %zu bytes", handed.size);
-        for (size_t i = 0; i < handed.size && i < 800; i++)
-            printf("%s%02x", i % 4 ? "" : " ", handed.sheet[i]);
-    } else {
-        printf(", minutes %zu, minute %zu, smoothing %" PRIu64, handed.minutes, handed.minute, handed.lambda);
-        for (size_t i = 0; handed.y && i < handed.minutes && i < 64; i++)
-            printf(" %" PRId32, handed.y[i]);
-        printf(", lengths");
-        for (size_t i = 0; i < handed.lengths && i < 64; i++)
-            printf(" %" PRIu32, handed.length[i]);
-        printf(", totals");
-        for (size_t i = 0; i < handed.totals && i < 64; i++)
-            printf(" %" PRId64, handed.total[i]);
-    }
-    printf("\n");
-    exit(1);
-}
-
-/* ---- the areas of a call, each beside what it must hold afterwards */
-static struct {
-    uint8_t *got, *want;
-    size_t bytes;
-} areas[5];
-static int used;
-
-static uint8_t *block(size_t bytes)
-{
-    uint8_t *p = malloc(bytes);
-    if (!p && bytes) {
-        printf("out of memory\n");
-        exit(2);
-    }
-    if (bytes)
-        memset(p, 0xa5 - used, bytes);
-    return p;
-}
-
-/* entries for the call to fill */
-static void *lend(size_t bytes)
-{
-    areas[used].bytes = bytes + 2 * guard;
-    areas[used].got = block(areas[used].bytes);
-    areas[used].want = block(areas[used].bytes);
-    return areas[used++].got + guard;
-}
-
-static void copy(void *to, const void *from, size_t bytes)
-{
-    if (bytes)
-        memcpy(to, from, bytes);
-}
-
-/* that the area number i, counted from 0, begins with these entries after the call */
-static void expect(int i, const void *entries, size_t bytes)
-{
-    copy(areas[i].want + guard, entries, bytes);
-}
-
-/* an input, which stays as it is */
-static const void *hand(const void *entries, size_t bytes)
-{
-    void *p = lend(bytes);
-    copy(p, entries, bytes);
-    expect(used - 1, entries, bytes);
-    return p;
-}
-
-static i64 judge(i64 want, i64 got)
-{
-    if (got != want) {
-        printf("expected %" PRId64 ", got %" PRId64 "; ", want, got);
-        fail("another result");
-    }
-    if (got < 0)
-        numbers[-got % 256]++;
-    while (used > 0) {
-        used--;
-        if (areas[used].bytes && memcmp(areas[used].got, areas[used].want, areas[used].bytes))
-            fail("an area holds something else");
-        free(areas[used].got);
-        free(areas[used].want);
-    }
-    return got;
 }
 
 /* ---- the calls */
@@ -137,11 +36,8 @@ static i64 compare_read(const uint8_t *sheet, size_t size, const size_t room[4])
 {
     static int32_t y[MOST];
     static Line line;
-    memset(&handed, 0, sizeof handed);
-    handed.call = "sheet_read";
-    handed.sheet = sheet;
-    handed.size = size;
-    copy(handed.room, room, sizeof handed.room);
+    handed = (Handed){.call = "sheet_read", .sheet = sheet, .size = size};
+    memcpy(handed.room, room, sizeof handed.room);
     int32_t *samples = lend(4 * room[0]);
     uint32_t *lengths = lend(4 * room[1]);
     i64 *totals = lend(8 * room[2]);
@@ -166,13 +62,7 @@ static i64 compare_read(const uint8_t *sheet, size_t size, const size_t room[4])
 
 static void hand_line(const char *call, size_t n, const uint32_t *length, size_t lengths, const i64 *total, size_t totals)
 {
-    memset(&handed, 0, sizeof handed);
-    handed.call = call;
-    handed.minutes = n;
-    handed.length = length;
-    handed.lengths = lengths;
-    handed.total = total;
-    handed.totals = totals;
+    handed = (Handed){.call = call, .minutes = n, .length = length, .lengths = lengths, .total = total, .totals = totals};
 }
 
 static i64 compare_write(const int32_t *y, size_t n, uint64_t lambda, const uint32_t *length, size_t lengths, const i64 *total, size_t totals, size_t room)
@@ -189,9 +79,7 @@ static i64 compare_write(const int32_t *y, size_t n, uint64_t lambda, const uint
     const i64 *total_in = hand(total, 8 * totals);
     i64 want = paper_judge(y, n, lambda, length, lengths, total, totals);
     if (want == 0) {
-        line.n = lengths;
-        copy(line.length, length, 4 * lengths);
-        copy(line.total, total, 8 * totals);
+        set_line(&line, length, total, lengths);
         want = (i64)paper_sheet(sheet, y, n, lambda, &line);
         if (room < (size_t)want)
             want = refusal(5, 0);
@@ -204,8 +92,10 @@ static i64 compare_write(const int32_t *y, size_t n, uint64_t lambda, const uint
 
 static i64 compare_segments(size_t n, const uint32_t *length, size_t lengths, const i64 *total, size_t totals, const size_t room[3])
 {
+    static uint32_t first[MOST], last[MOST];
+    static double level[MOST];
     hand_line("chart_segments", n, length, lengths, total, totals);
-    copy(handed.room, room, 3 * sizeof room[0]);
+    memcpy(handed.room, room, 3 * sizeof room[0]);
     uint32_t *firsts = lend(4 * room[0]), *lasts = lend(4 * room[1]);
     double *levels = lend(8 * room[2]);
     const uint32_t *length_in = hand(length, 4 * lengths);
@@ -216,12 +106,13 @@ static i64 compare_segments(size_t n, const uint32_t *length, size_t lengths, co
     if (want == 0) {
         uint32_t minute = 0;
         for (size_t s = 0; s < lengths; s++) {
-            uint32_t first = minute + 1, last = minute += length[s];
-            double level = paper_plot(length[s], total[s]);
-            copy(areas[0].want + guard + 4 * s, &first, sizeof first);
-            copy(areas[1].want + guard + 4 * s, &last, sizeof last);
-            copy(areas[2].want + guard + 8 * s, &level, sizeof level);
+            first[s] = minute + 1;
+            last[s] = minute += length[s];
+            level[s] = paper_plot(length[s], total[s]);
         }
+        expect(0, first, 4 * lengths);
+        expect(1, last, 4 * lengths);
+        expect(2, level, 8 * lengths);
         want = (i64)lengths;
     }
     segments++;
@@ -244,15 +135,6 @@ static i64 compare_mark(size_t n, const uint32_t *length, size_t lengths, const 
         expect(0, level, sizeof level);
     marks++;
     return judge(want, chart_mark(n, length_in, lengths, total_in, totals, minute, levels, room));
-}
-
-/* that a call, just compared with the paper's implementation, got what is written here by hand */
-static void must(i64 got, i64 want)
-{
-    if (got != want) {
-        printf("%" PRId64 " by hand, got %" PRId64 "; ", want, got);
-        fail("not what is written by hand");
-    }
 }
 
 /* ---- a line's chart, and a series through every call */
@@ -318,9 +200,7 @@ static void known(void)
     static Line line;
     for (size_t r = 0; r < KNOWN; r++) {
         const Known *k = &known_lines[r];
-        line.n = k->segments;
-        memcpy(line.length, k->length, sizeof k->length);
-        memcpy(line.total, k->total, sizeof k->total);
+        set_line(&line, k->length, k->total, k->segments);
         everywhere(k->y, k->n, k->lambda, &line);
         chart(k->n, &line, 1);
     }
@@ -357,32 +237,6 @@ static void close_levels(void)
 }
 
 /* ---- refusals, with those that come after them in the same call; the numbers are written by hand */
-static const struct {
-    size_t lengths, totals;
-    uint32_t length[3];
-    i64 total[3];
-    i64 number, place;
-} lines[] = {
-    /* for the samples 0, 0, 9, 9 and a smoothing of 1 */
-    {0, 0, {0}, {0}, 0, 0},
-    {2, 2, {2, 2}, {1, 17}, 0, 0},
-    {0, 2, {0}, {1, 17}, 6, 0},
-    {2, 0, {2, 2}, {0}, 6, 0},
-    {2, 1, {0, 2}, {1}, 6, 0},
-    {3, 3, {2, 0, 2}, {INT64_MAX, 0, 17}, 6, 2},
-    {3, 3, {0, 0, 3}, {0, 0, 0}, 6, 1},
-    {2, 2, {2, 1}, {INT64_MIN, 17}, 6, 0},
-    {3, 3, {UINT32_MAX, UINT32_MAX, 6}, {0, 0, 0}, 6, 0},
-    {2, 2, {2, 2}, {2 * LIMIT + 1, 2 * LIMIT + 1}, 7, 1},
-    {3, 3, {1, 1, 2}, {5, 5, -2 * LIMIT - 1}, 7, 3},
-    {2, 2, {2, 2}, {0, INT64_MIN}, 7, 2},
-    {3, 3, {1, 1, 2}, {3, 3, 6}, 8, 2},
-    {3, 3, {1, 1, 2}, {1, 3, 6}, 8, 3},
-    {2, 2, {2, 2}, {2, 16}, 9, 2},
-    {1, 1, {4}, {18}, 9, 1},
-    {2, 2, {2, 2}, {1, 16}, 9, 4},
-};
-enum { LINES = sizeof lines / sizeof lines[0] };
 static int32_t series[MOST + 1] = {0, 0, 9, 9};
 
 /* minutes 4, 0 or 65,537 */
@@ -392,13 +246,14 @@ static const size_t minutes[] = {4, 0, MOST + 1};
 static void writer_refusals(void)
 {
     for (int set = 0; set < 1 << 6; set++)
-        for (int l = 0; l < LINES; l++) {
-            size_t size = 32 + 4 * 4 + 12 * lines[l].lengths;
+        for (int l = 0; l < JUDGED; l++) {
+            const Judged *j = &judged_lines[l];
+            size_t size = 32 + 4 * 4 + 12 * j->lengths;
             i64 want = (i64)size;
             if (set & 32)
                 want = refusal(5, 0);
-            if (lines[l].number)
-                want = refusal(lines[l].number, lines[l].place);
+            if (j->number)
+                want = refusal(j->number, j->place);
             if (set & 16) {
                 series[3] = INT32_MIN;
                 want = refusal(3, 4);
@@ -414,7 +269,7 @@ static void writer_refusals(void)
             if (set & 1)
                 want = refusal(1, 0);
             size_t n = minutes[set & 1 ? 1 : set & 2], room = set & 32 ? size - 1 : size;
-            must(compare_write(series, n, set & 4 ? SMOOTHEST + 1 : 1, lines[l].length, lines[l].lengths, lines[l].total, lines[l].totals, room), want);
+            must(compare_write(series, n, set & 4 ? SMOOTHEST + 1 : 1, j->length, j->lengths, j->total, j->totals, room), want);
             series[1] = 0;
             series[3] = 9;
         }
@@ -429,12 +284,11 @@ static void reader_refusals(void)
     enum { FAULTS = sizeof faults / sizeof faults[0] };
     static Line line;
     for (int set = 0; set < 1 << FAULTS; set += guard ? 1 : 37)
-        for (int l = set & 1 << 10 ? 2 : 0; l < (set & 1 << 10 ? LINES : 2); l++) {
-            if (lines[l].lengths != lines[l].totals)
+        for (int l = set & 1 << 10 ? 2 : 0; l < (set & 1 << 10 ? JUDGED : 2); l++) {
+            const Judged *j = &judged_lines[l];
+            if (j->lengths != j->totals)
                 continue;
-            line.n = lines[l].lengths;
-            memcpy(line.length, lines[l].length, sizeof lines[l].length);
-            memcpy(line.total, lines[l].total, sizeof lines[l].total);
+            set_line(&line, j->length, j->total, j->lengths);
             series[2] = set & 1 << 9 ? -LIMIT - 1 : 9;
             memset(sheet, 0, 100);
             size_t n = 4, size = paper_sheet(sheet, series, n, set & 1 << 8 ? SMOOTHEST + 1 : 1, &line), handed_over = size;
@@ -462,7 +316,7 @@ static void reader_refusals(void)
             i64 want = (i64)line.n;
             for (int f = FAULTS; f-- > 0;)
                 if (set & 1 << f)
-                    want = f == 10 ? refusal(lines[l].number, lines[l].place) : refusal(faults[f].number, faults[f].place);
+                    want = f == 10 ? refusal(j->number, j->place) : refusal(faults[f].number, faults[f].place);
             int few = set & 1 << 11 ? 1 + l % 4 : 0;
             must(compare_read(sheet, handed_over, (size_t[]){n - (few == 1), n - (few == 2), n - (few == 3), 3 - (few == 4)}), want);
         }
@@ -471,14 +325,15 @@ static void reader_refusals(void)
 static void chart_refusals(void)
 {
     static const size_t asked[] = {0, 1, 2, 3, 4, 5, MOST + 1, SIZE_MAX};
-    for (int l = 1; l < LINES; l++)
+    for (int l = 1; l < JUDGED; l++)
         for (int many = 0; many < 3; many++) {
-            i64 line = lines[l].number == 9 ? 0 : lines[l].number, shape = many == 1 ? refusal(1, 0) : many ? refusal(2, 0) : line ? refusal(line, lines[l].place) : 0;
+            const Judged *j = &judged_lines[l];
+            i64 line = j->number == 9 ? 0 : j->number, shape = many == 1 ? refusal(1, 0) : many ? refusal(2, 0) : line ? refusal(line, j->place) : 0;
             for (size_t room = 0; room < 5; room++) {
-                i64 got = compare_segments(minutes[many], lines[l].length, lines[l].lengths, lines[l].total, lines[l].totals, (size_t[]){room, 4, 4});
-                must(got, shape ? shape : room < lines[l].lengths ? refusal(5, 0) : (i64)lines[l].lengths);
+                i64 got = compare_segments(minutes[many], j->length, j->lengths, j->total, j->totals, (size_t[]){room, 4, 4});
+                must(got, shape ? shape : room < j->lengths ? refusal(5, 0) : (i64)j->lengths);
                 for (int a = 0; a < 8; a++) {
-                    got = compare_mark(minutes[many], lines[l].length, lines[l].lengths, lines[l].total, lines[l].totals, asked[a], room);
+                    got = compare_mark(minutes[many], j->length, j->lengths, j->total, j->totals, asked[a], room);
                     must(got < 0 ? got : 0, shape ? shape : asked[a] < 1 || asked[a] > 4 ? refusal(13, 0) : room < 2 ? refusal(5, 0) : 0);
                 }
             }
@@ -591,67 +446,139 @@ static void random_sheets(void)
     random_lists();
 }
 
-/* ---- the stack that the header names, with nothing below it */
-static ucontext_t here, there;
-
+/* ---- the stack that the header names */
+/* with nothing below it for as far as a call may reach */
 static void on_stack(size_t bytes, void (*calls)(void))
 {
-    enum { PAGE = 4096 };
-    uint8_t *p = mmap(NULL, PAGE + bytes, PROT_READ | PROT_WRITE, MAP_PRIVATE | MAP_ANONYMOUS, -1, 0);
-    if (p == MAP_FAILED || mprotect(p, PAGE, PROT_NONE) || getcontext(&there)) {
+    enum { BELOW = 4 << 20 };
+    static ucontext_t here, there;
+    uint8_t *p = mmap(NULL, BELOW + bytes, PROT_READ | PROT_WRITE, MAP_PRIVATE | MAP_ANONYMOUS, -1, 0);
+    if (p == MAP_FAILED || mprotect(p, BELOW, PROT_NONE) || getcontext(&there)) {
         printf("no stack to test with\n");
         exit(1);
     }
-    there.uc_stack.ss_sp = p + PAGE;
+    there.uc_stack.ss_sp = p + BELOW;
     there.uc_stack.ss_size = bytes;
     there.uc_link = &here;
     makecontext(&there, calls, 0);
     swapcontext(&here, &there);
-    munmap(p, PAGE + bytes);
+    munmap(p, BELOW + bytes);
+}
+
+/* The stack pointer, looked at after each instruction: it also tells of memory that is set aside and not touched. */
+static volatile int following;
+static uintptr_t lowest;
+
+static void look(int number, siginfo_t *info, void *context)
+{
+    enum { TRAP = 256 }; /* the flag that makes the processor stop after the next instruction */
+    greg_t *registers = ((ucontext_t *)context)->uc_mcontext.gregs;
+    (void)number;
+    (void)info;
+    if ((uintptr_t)registers[REG_RSP] < lowest)
+        lowest = (uintptr_t)registers[REG_RSP];
+    if (following)
+        registers[REG_EFL] |= TRAP;
+    else
+        registers[REG_EFL] &= ~TRAP;
+}
+
+/* how far it falls, and the 128 bytes below it that a function may use */
+static size_t fall(void (*calls)(void))
+{
+    uintptr_t top = (uintptr_t)__builtin_frame_address(0);
+    lowest = top;
+    sigaction(SIGTRAP, &(struct sigaction){.sa_sigaction = look, .sa_flags = SA_SIGINFO}, NULL);
+    following = 1;
+    raise(SIGTRAP);
+    calls();
+    following = 0;
+    return top - lowest + 128;
 }
 
 static int32_t stack_y[MOST], stack_samples[MOST];
 static Line stack_line;
-static i64 stack_totals[MOST], answers[8];
+static dawhikura_segment stack_records[MOST];
+static i64 stack_totals[MOST], answers[7];
 static uint32_t stack_lengths[MOST], stack_lasts[MOST];
 static double stack_levels[MOST];
 
-static void small_calls(void)
+static void list_calls(void)
 {
+    size_t m = stack_line.n;
     answers[0] = series_line(stack_y, MOST, 50, stack_lengths, MOST, stack_totals, MOST);
     answers[1] = series_balances(stack_y, MOST, 50, stack_totals, MOST);
-    answers[2] = series_check(stack_y, MOST, 50, stack_line.length, stack_line.n, stack_line.total, stack_line.n);
-    answers[3] = chart_segments(MOST, stack_line.length, stack_line.n, stack_line.total, stack_line.n, stack_lengths, MOST, stack_lasts, MOST, stack_levels, MOST);
-    answers[4] = chart_mark(MOST, stack_line.length, stack_line.n, stack_line.total, stack_line.n, MOST, stack_levels, 2);
-    answers[5] = sheet_write(stack_y, MOST, 50, stack_line.length, stack_line.n, stack_line.total, stack_line.n, sheet, SHEET);
+    answers[2] = series_check(stack_y, MOST, 50, stack_line.length, m, stack_line.total, m);
+    answers[3] = series_check_segments(stack_y, MOST, 50, stack_records, m);
+    answers[4] = chart_segments(MOST, stack_line.length, m, stack_line.total, m, stack_lengths, MOST, stack_lasts, MOST, stack_levels, MOST);
+    answers[5] = chart_mark(MOST, stack_line.length, m, stack_line.total, m, MOST, stack_levels, 2);
+    answers[6] = sheet_write(stack_y, MOST, 50, stack_line.length, m, stack_line.total, m, sheet, SHEET);
 }
 
-static void large_calls(void)
+/* the sheet with its line read, with too few fields too, and completed; then completed without its line */
+static void sheet_calls(void)
 {
     uint64_t fields[3];
-    answers[6] = sheet_read(sheet, (size_t)answers[5], stack_samples, MOST, stack_lengths, MOST, stack_totals, MOST, fields, 3);
+    size_t n = get(sheet, 4), m = get(sheet + 4, 4), size = get(sheet + 24, 4);
+    answers[0] = sheet_read(sheet, size, stack_samples, n, stack_lengths, n, stack_totals, n, fields, 3);
+    answers[1] = sheet_read(sheet, size, stack_samples, n, stack_lengths, n, stack_totals, n, fields, 2);
+    answers[2] = sheet_complete(sheet, size, other, SHEET);
     put(sheet + 4, 4, 0);
-    put(sheet + 24, 4, 32 + 4 * MOST);
-    answers[7] = sheet_complete(sheet, 32 + 4 * MOST, other, SHEET);
+    put(sheet + 24, 4, 32 + 4 * n);
+    answers[3] = sheet_complete(sheet, 32 + 4 * n, other, SHEET);
+    put(sheet + 4, 4, m);
+    put(sheet + 24, 4, size);
+}
+
+static void sheet_of(size_t n)
+{
+    paper_line_long(stack_y, n, 50, &stack_line);
+    paper_sheet(sheet, stack_y, n, 50, &stack_line);
+}
+
+static void answered(const i64 *want, int count)
+{
+    for (int i = 0; i < count; i++)
+        must(answers[i], want[i]);
+}
+
+static void sheet_answered(void)
+{
+    i64 m = (i64)get(sheet + 4, 4), size = (i64)get(sheet + 24, 4);
+    answered((i64[]){m, refusal(5, 0), size, size}, 4);
 }
 
 static void stacks(void)
 {
     for (size_t i = 0; i < MOST; i++)
         stack_y[i] = random_sample(&state, 1);
-    paper_line_long(stack_y, MOST, 50, &stack_line);
-    on_stack(16384, small_calls);
-    on_stack((1 << 20) + 16384, large_calls);
-    i64 m = (i64)stack_line.n, size = 32 + 4 * MOST + 12 * m, want[] = {m, MOST, 0, m, 0, size, m, size};
-    for (int i = 0; i < 8; i++)
-        must(answers[i], want[i]);
+    sheet_of(MOST);
+    on_stack(LARGE_STACK, sheet_calls);
+    sheet_answered();
+    for (size_t s = 0; s < stack_line.n; s++) {
+        stack_records[s].length = stack_line.length[s];
+        stack_records[s].total = stack_line.total[s];
+    }
+    i64 m = (i64)stack_line.n;
+    on_stack(LIST_STACK, list_calls);
+    answered((i64[]){m, MOST, 0, 0, m, 0, 32 + 4 * MOST + 12 * m}, 7);
+    /* one minute will do, and does not take long: what is set aside is the same for all small sheets */
+    sheet_of(1);
+    size_t bytes = fall(sheet_calls);
+    sheet_answered();
+    printf("stack of small sheets %zu ", bytes);
+    if (bytes > SMALL_STACK) {
+        printf("is more than %d\n", SMALL_STACK);
+        exit(1);
+    }
+    sheet_of(SMALL);
+    on_stack(SMALL_STACK, sheet_calls);
+    sheet_answered();
 }
 
 int main(int argc, char **argv)
 {
-    unsigned long count = argc > 1 ? strtoul(argv[1], NULL, 10) : 40000;
-    if (argc > 2)
-        guard = strtoul(argv[2], NULL, 10);
+    unsigned long count = arguments(argc, argv, 40000);
     known();
     close_levels();
     writer_refusals();
@@ -666,9 +593,7 @@ int main(int argc, char **argv)
     long_series();
     if (guard)
         stacks();
-    printf("reads %lu writes %lu charts %lu marks %lu completed %lu refused", reads, writes, segments, marks, completed);
-    for (int i = 1; i < 14; i++)
-        printf(" %d:%lu", i, numbers[i]);
-    printf(": all agree\n");
+    printf("reads %lu writes %lu charts %lu marks %lu completed %lu", reads, writes, segments, marks, completed);
+    print_agreed();
     return 0;
 }

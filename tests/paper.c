@@ -9,6 +9,15 @@ int same_line(const Line *a, const Line *b)
     return a->n == b->n && memcmp(a->length, b->length, a->n * sizeof a->length[0]) == 0 && memcmp(a->total, b->total, a->n * sizeof a->total[0]) == 0;
 }
 
+void set_line(Line *line, const uint32_t *length, const i64 *total, size_t n)
+{
+    line->n = n;
+    if (n > 0) {
+        memcpy(line->length, length, n * sizeof length[0]);
+        memcpy(line->total, total, n * sizeof total[0]);
+    }
+}
+
 i64 refusal(i64 number, i64 place)
 {
     return -(256 * place + number);
@@ -130,9 +139,7 @@ int paper_line_short(const int32_t *y, size_t n, uint64_t lambda, Line *out)
             if (found && out->n == c.n && !memcmp(out->length, c.length, c.n * sizeof c.length[0]) && !memcmp(out->total, c.total, c.n * sizeof c.total[0]))
                 continue;
             found++;
-            out->n = c.n;
-            memcpy(out->length, c.length, c.n * sizeof c.length[0]);
-            memcpy(out->total, c.total, c.n * sizeof c.total[0]);
+            set_line(out, c.length, c.total, c.n);
         }
     }
     return found == 1;
@@ -224,6 +231,26 @@ const Known known_lines[KNOWN] = {
     {2, {-LIMIT, LIMIT}, LIMIT, 1, {2}, {0}},
 };
 
+const Judged judged_lines[JUDGED] = {
+    {0, 0, {0}, {0}, 0, 0},
+    {2, 2, {2, 2}, {1, 17}, 0, 0},
+    {0, 2, {0}, {1, 17}, 6, 0},
+    {2, 0, {2, 2}, {0}, 6, 0},
+    {2, 1, {0, 2}, {1}, 6, 0},
+    {3, 3, {2, 0, 2}, {INT64_MAX, 0, 17}, 6, 2},
+    {3, 3, {0, 0, 3}, {0, 0, 0}, 6, 1},
+    {2, 2, {2, 1}, {INT64_MIN, 17}, 6, 0},
+    {3, 3, {UINT32_MAX, UINT32_MAX, 6}, {0, 0, 0}, 6, 0},
+    {2, 2, {2, 2}, {2 * LIMIT + 1, 2 * LIMIT + 1}, 7, 1},
+    {3, 3, {1, 1, 2}, {5, 5, -2 * LIMIT - 1}, 7, 3},
+    {2, 2, {2, 2}, {0, INT64_MIN}, 7, 2},
+    {3, 3, {1, 1, 2}, {3, 3, 6}, 8, 2},
+    {3, 3, {1, 1, 2}, {1, 3, 6}, 8, 3},
+    {2, 2, {2, 2}, {2, 16}, 9, 2},
+    {1, 1, {4}, {18}, 9, 1},
+    {2, 2, {2, 2}, {1, 16}, 9, 4},
+};
+
 /* ---- the sheet, from the paper's table */
 uint64_t get(const uint8_t *p, int width)
 {
@@ -285,6 +312,22 @@ i64 paper_read(const uint8_t *s, size_t size, int32_t *y, Line *line)
         line->total[i] = (i64)get(s + 36 + 4 * n + 12 * i, 8);
     }
     return m == 0 ? paper_limits(y, n, lambda) : paper_check(y, n, lambda, line->length, m, line->total, m);
+}
+
+i64 paper_complete(const uint8_t *s, size_t size, uint8_t *out, size_t room)
+{
+    static int32_t y[MOST];
+    static Line line;
+    i64 r = paper_read(s, size, y, &line);
+    if (r)
+        return r;
+    size_t n = get(s, 4);
+    uint64_t lambda = get(s + 16, 8);
+    if (line.n == 0)
+        paper_line_long(y, n, lambda, &line);
+    if (32 + 4 * n + 12 * line.n > room)
+        return refusal(5, 0);
+    return (i64)paper_sheet(out, y, n, lambda, &line);
 }
 
 i64 paper_judge(const int32_t *y, size_t n, uint64_t lambda, const uint32_t *length, size_t lengths, const i64 *total, size_t totals)

@@ -19,6 +19,9 @@ typedef struct {
 
 int same_line(const Line *a, const Line *b);
 
+/* the line of n segments; without any the lists may be NULL */
+void set_line(Line *line, const uint32_t *length, const i64 *total, size_t n);
+
 /* minus (256 times the place, plus the number) */
 i64 refusal(i64 number, i64 place);
 
@@ -49,6 +52,16 @@ typedef struct {
 } Known;
 extern const Known known_lines[KNOWN];
 
+/* lines for the samples 0, 0, 9, 9 and a smoothing of 1, with the refusals 6 to 9 written by hand: none, the right one, then wrong ones */
+enum { JUDGED = 17 };
+typedef struct {
+    size_t lengths, totals;
+    uint32_t length[3];
+    i64 total[3];
+    i64 number, place;
+} Judged;
+extern const Judged judged_lines[JUDGED];
+
 /* ---- the sheet */
 /* no sheet is longer */
 enum { SHEET = 32 + 4 * MOST + 12 * MOST };
@@ -62,6 +75,9 @@ size_t paper_sheet(uint8_t *out, const int32_t *y, size_t n, uint64_t lambda, co
 
 /* what a sheet holds: 10, 1, 2, 11, 12, 4, 3, then 6 to 9 where a line is filed, or 0 */
 i64 paper_read(const uint8_t *s, size_t size, int32_t *y, Line *line);
+
+/* the sheet with its line, into `out` where there is room: the same refusals, then 5, or its number of bytes */
+i64 paper_complete(const uint8_t *s, size_t size, uint8_t *out, size_t room);
 
 /* whether these lists go into a sheet: 1, 2, 4, 3, then 6 to 9 unless both line lists are empty, or 0 */
 i64 paper_judge(const int32_t *y, size_t n, uint64_t lambda, const uint32_t *length, size_t lengths, const i64 *total, size_t totals);

@@ -3,72 +3,20 @@
  *
  *     sheets [COUNT [GUARD]]      COUNT random sheets (default 200000), then long ones
  *
- * Each call gets areas of its own from malloc, with GUARD bytes (default 64) before and after that must stay as they are. With GUARD 0 the areas are
- * exactly as long as the call is told: for a run under valgrind, which then sees every access outside of them.
+ * Each call gets areas of its own with GUARD bytes (default 64) around them, 0 for a run under valgrind (harness.h).
  *
  * Seeds are fixed. A difference prints the seed and the sheet. */
-#include <inttypes.h>
 #include <stdio.h>
-#include <stdlib.h>
 #include <string.h>
 
 #include "../include/dawhikura.h"
-#include "paper.h"
+#include "harness.h"
 #include "random.h"
 
-/* ---- completing, from the paper */
-static int32_t y[MOST];
-static Line line;
-static uint8_t expected[SHEET];
-
-/* the result, and the bytes written in `expected` */
-static i64 paper_complete(const uint8_t *s, size_t size, size_t room)
-{
-    i64 r = paper_read(s, size, y, &line);
-    if (r)
-        return r;
-    size_t n = get(s, 4);
-    uint64_t lambda = get(s + 16, 8);
-    if (line.n == 0)
-        paper_line_long(y, n, lambda, &line);
-    if (32 + 4 * n + 12 * line.n > room)
-        return refusal(5, 0);
-    return (i64)paper_sheet(expected, y, n, lambda, &line);
-}
-
-/* ---- the areas of a call */
-enum { FILL = 0xa5 };
-
-static size_t guard = 64;
-
-static uint8_t *lend(size_t size)
-{
-    uint8_t *block = malloc(size + 2 * guard);
-    if (!block) {
-        printf("out of memory\n");
-        exit(2);
-    }
-    memset(block, FILL, size + 2 * guard);
-    return block + guard;
-}
-
-static void give_back(uint8_t *area)
-{
-    free(area - guard);
-}
-
-/* the bytes of an area from `used` on, and the guards on both sides, are as lent */
-static int kept(const uint8_t *area, size_t used, size_t size)
-{
-    for (const uint8_t *p = area - guard; p < area + size + guard; p++)
-        if ((p < area || p >= area + used) && *p != FILL)
-            return 0;
-    return 1;
-}
-
 /* ---- the comparison */
-static uint64_t seed, state;
-static unsigned long sheets, calls, completed, numbers[256];
+static uint64_t state;
+static uint8_t expected[SHEET]; /* what completing must write */
+static unsigned long sheets, calls, completed;
 
 static void start(uint64_t with)
 {
@@ -81,45 +29,22 @@ static uint64_t next(void)
     return next_number(&state);
 }
 
-static void fail(const char *what, const uint8_t *s, size_t size, size_t room)
-{
-    printf("%s: seed %" PRIu64 ", output of %zu bytes, sheet of %zu bytes", what, seed, room, size);
-    for (size_t i = 0; i < size && i < 400; i++)
-        printf("%s%02x", i % 4 ? "" : " ", s[i]);
-    printf("\n");
-    exit(1);
-}
-
 static void compare(const uint8_t *s, size_t size, size_t room)
 {
-    uint8_t *in = lend(size), *out = lend(room);
-    memcpy(in, s, size);
-    i64 want = paper_complete(s, size, room);
-    i64 got = sheet_complete(in, size, out, room);
-    size_t written = got > 0 ? (size_t)got : 0;
+    handed = (Handed){.call = "sheet_complete", .sheet = s, .size = size, .room = {room}};
+    uint8_t *out = lend(room);
+    const uint8_t *in = hand(s, size);
+    i64 want = paper_complete(s, size, expected, room);
+    if (want > 0)
+        expect(0, expected, (size_t)want);
     calls++;
-    if (got > 0)
-        completed++;
-    else
-        numbers[-got % 256]++;
-    if (want != got) {
-        printf("expected %" PRId64 ", got %" PRId64 "; ", want, got);
-        fail("another result", s, size, room);
-    }
-    if (memcmp(out, expected, written))
-        fail("other bytes", s, size, room);
-    if (!kept(out, written, room))
-        fail("a byte around the output, or past the result, was touched", s, size, room);
-    if (memcmp(in, s, size) || !kept(in, size, size))
-        fail("the sheet, or a byte around it, was touched", s, size, room);
-    give_back(in);
-    give_back(out);
+    completed += judge(want, sheet_complete(in, size, out, room)) > 0;
 }
 
 /* with the output longer than it need be, exact, one byte short and shorter */
 static void compare_rooms(const uint8_t *s, size_t size)
 {
-    i64 r = paper_complete(s, size, SHEET);
+    i64 r = paper_complete(s, size, expected, SHEET);
     if (r <= 0) {
         compare(s, size, size + next() % 500);
         return;
@@ -171,17 +96,13 @@ static void long_sheets(void)
 
 int main(int argc, char **argv)
 {
-    unsigned long count = argc > 1 ? strtoul(argv[1], NULL, 10) : 200000;
-    if (argc > 2)
-        guard = strtoul(argv[2], NULL, 10);
+    unsigned long count = arguments(argc, argv, 200000);
     for (unsigned long i = 1; i <= count; i++) {
         start(i);
         random_one();
     }
     long_sheets();
-    printf("sheets %lu calls %lu completed %lu refused", sheets, calls, completed);
-    for (int i = 1; i < 13; i++)
-        printf(" %d:%lu", i, numbers[i]);
-    printf(": all agree\n");
+    printf("sheets %lu calls %lu completed %lu", sheets, calls, completed);
+    print_agreed();
     return 0;
 }

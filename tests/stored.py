@@ -7,12 +7,12 @@ from pathlib import Path
 def store(crate, files, told):
     """Writes the files of a crate, or with --check sees that they are as they would be written; says what was told, and ends the script."""
     root = Path(__file__).resolve().parent.parent / "crates" / crate
-    good = True
+    differ = []
     for name, text in files.items():
         path = root / name
-        if "--check" in sys.argv:
-            good &= path.read_text() == text
-        else:
+        if "--check" not in sys.argv:
             path.write_text(text)
-    print(told + ("" if good else ": the files differ"))
-    sys.exit(0 if good else 1)
+        elif path.read_text() != text:
+            differ.append(name)
+    print(f"{crate}: {told}" + "".join(f"; {name} differs" for name in differ))
+    sys.exit(1 if differ else 0)
