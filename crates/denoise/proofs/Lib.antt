@@ -18,6 +18,7 @@ pub mod Passed
 pub mod Followed
 pub mod Concluded
 pub mod CheckLaws
+pub mod PlaceLaws
 pub mod LineLaws
 pub mod DualLaws
 pub mod Records

@@ -5,5 +5,6 @@ pub mod Chains
 pub mod CompleteLaws
 pub mod Judged
 pub mod OwnLine
+pub mod PlaceLaws
 pub mod RoundTrip
 pub mod SheetOf
