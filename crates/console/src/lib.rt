@@ -104,12 +104,16 @@ pub extern "C" fn chart_segments(
     lasts: &mut [u32],
     levels: &mut [f64],
 ) -> i64
-    ensures answer { λ r. ⌜ r ≡ code-of-all (length (now (lengths .entry))) (told (segmentsOf minutes (now (lengths .entry)) (now (totals .entry)) (now (firsts .entry)) (now (lasts .entry)) (now (levels .entry)))) ⌝ }
-    ensures plain { λ r. ⌜ (length (now (lengths .entry)) ≤ farthest →
-        r ≡ code-of-all (length (now (lengths .entry))) (segmentsOf minutes (now (lengths .entry)) (now (totals .entry)) (now (firsts .entry)) (now (lasts .entry)) (now (levels .entry)))) ⌝ }
-    ensures firsts { λ r. ⌜ now (firsts .exit) ≡ firstsOf minutes (now (lengths .entry)) (now (totals .entry)) (now (firsts .entry)) (now (lasts .entry)) (now (levels .entry)) ⌝ }
-    ensures lasts { λ r. ⌜ now (lasts .exit) ≡ lastsOf minutes (now (lengths .entry)) (now (totals .entry)) (now (firsts .entry)) (now (lasts .entry)) (now (levels .entry)) ⌝ }
-    ensures levels { λ r. ⌜ now (levels .exit) ≡ levelsOf minutes (now (lengths .entry)) (now (totals .entry)) (now (firsts .entry)) (now (lasts .entry)) (now (levels .entry)) ⌝ }
+    ensures answer { λ r. ⌜ r ≡ code-of-all (length (now (lengths .entry)))
+        (told (segmentsOf minutes (now (lengths .entry)) (now (totals .entry)) (now (firsts .entry)) (now (lasts .entry)) (now (levels .entry)))) ⌝ }
+    ensures plain { λ r. ⌜ (length (now (lengths .entry)) ≤ farthest → r ≡ code-of-all (length (now (lengths .entry)))
+        (segmentsOf minutes (now (lengths .entry)) (now (totals .entry)) (now (firsts .entry)) (now (lasts .entry)) (now (levels .entry)))) ⌝ }
+    ensures firsts { λ r. ⌜ now (firsts .exit) ≡
+        firstsOf minutes (now (lengths .entry)) (now (totals .entry)) (now (firsts .entry)) (now (lasts .entry)) (now (levels .entry)) ⌝ }
+    ensures lasts { λ r. ⌜ now (lasts .exit) ≡
+        lastsOf minutes (now (lengths .entry)) (now (totals .entry)) (now (firsts .entry)) (now (lasts .entry)) (now (levels .entry)) ⌝ }
+    ensures levels { λ r. ⌜ now (levels .exit) ≡
+        levelsOf minutes (now (lengths .entry)) (now (totals .entry)) (now (firsts .entry)) (now (lasts .entry)) (now (levels .entry)) ⌝ }
 {
     match chart::segments(minutes, lengths, totals, firsts, lasts, levels) {
         Filled::Done => lengths.len() as i64,
@@ -159,11 +163,16 @@ pub extern "C" fn sheet_read(
     totals: &mut [i64],
     fields: &mut [u64],
 ) -> i64
-    ensures answer { λ r. ⌜ r ≡ code (readingOf (now (sheet .entry)) (now (samples .entry)) (now (lengths .entry)) (now (totals .entry)) (now (fields .entry))) ⌝ }
-    ensures samples { λ r. ⌜ now (samples .exit) ≡ samplesRead (now (sheet .entry)) (now (samples .entry)) (now (lengths .entry)) (now (totals .entry)) (now (fields .entry)) ⌝ }
-    ensures lengths { λ r. ⌜ now (lengths .exit) ≡ lengthsRead (now (sheet .entry)) (now (samples .entry)) (now (lengths .entry)) (now (totals .entry)) (now (fields .entry)) ⌝ }
-    ensures totals { λ r. ⌜ now (totals .exit) ≡ totalsRead (now (sheet .entry)) (now (samples .entry)) (now (lengths .entry)) (now (totals .entry)) (now (fields .entry)) ⌝ }
-    ensures fields { λ r. ⌜ now (fields .exit) ≡ fieldsRead (now (sheet .entry)) (now (samples .entry)) (now (lengths .entry)) (now (totals .entry)) (now (fields .entry)) ⌝ }
+    ensures answer { λ r. ⌜ r ≡
+        code (readingOf (now (sheet .entry)) (now (samples .entry)) (now (lengths .entry)) (now (totals .entry)) (now (fields .entry))) ⌝ }
+    ensures samples { λ r. ⌜ now (samples .exit) ≡
+        samplesRead (now (sheet .entry)) (now (samples .entry)) (now (lengths .entry)) (now (totals .entry)) (now (fields .entry)) ⌝ }
+    ensures lengths { λ r. ⌜ now (lengths .exit) ≡
+        lengthsRead (now (sheet .entry)) (now (samples .entry)) (now (lengths .entry)) (now (totals .entry)) (now (fields .entry)) ⌝ }
+    ensures totals { λ r. ⌜ now (totals .exit) ≡
+        totalsRead (now (sheet .entry)) (now (samples .entry)) (now (lengths .entry)) (now (totals .entry)) (now (fields .entry)) ⌝ }
+    ensures fields { λ r. ⌜ now (fields .exit) ≡
+        fieldsRead (now (sheet .entry)) (now (samples .entry)) (now (lengths .entry)) (now (totals .entry)) (now (fields .entry)) ⌝ }
 {
     if fields.len() < 3 {
         return no_room(sheet);

@@ -38,7 +38,8 @@ module _ (g : tie.After-mark-of) {m : Mark} (e : g .mark-of .result ≡ m) where
   plain = let a = start g .args in plainly (λ k. code (kindOf l k)) (λ h. mark-placed (a .minutes) (a .lengths .now) (a .totals .now) h (a .minute))
 
   says : {r : ℤ} {out : List Float} → r ≡ code (kindOf l (told (marked m))) → out ≡ levelsAfter l (marked m)
-      → (r ≡ code (kindOf l (told (answer g)))) × ((length (start g .args .lengths .now) ≤ farthest → r ≡ code (kindOf l (answer g))) × (out ≡ levelsAfter l (answer g)))
+      → (r ≡ code (kindOf l (told (answer g))))
+      × ((length (start g .args .lengths .now) ≤ farthest → r ≡ code (kindOf l (answer g))) × (out ≡ levelsAfter l (answer g)))
   says p q = let r = p ∙ ap (λ k. code (kindOf l (told k))) promised in (r, (plain r, q ∙ ap (levelsAfter l) promised))
 
 returns : tie.Need-returns

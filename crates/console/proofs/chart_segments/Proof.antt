@@ -29,7 +29,9 @@ module _ (g : tie.After-segments) where
   promised = g .segments .ensures .0
 
   plain : {r : ℤ} → let n = length (a .args .lengths .now) in r ≡ code-of-all n (told answer) → n ≤ farthest → r ≡ code-of-all n answer
-  plain = plainly (code-of-all (length (a .args .lengths .now))) (λ h. segments-placed (a .args .minutes) (a .args .lengths .now) (a .args .totals .now) h (a .args .firsts .now) (a .args .lasts .now) (a .args .levels .now))
+  plain =
+      plainly (code-of-all (length (a .args .lengths .now))) (λ h.
+      segments-placed (a .args .minutes) (a .args .lengths .now) (a .args .totals .now) h (a .args .firsts .now) (a .args .lasts .now) (a .args .levels .now))
 
 returns : tie.Need-returns
 returns c =

@@ -1,9 +1,10 @@
 -- `console::sheet_read` meets its contract.
 use borrow.Author.Needs.{needs}
 use mathlib.Core.Path.{_≡_, sym, ap, _∙_}
+use mathlib.Core.List.{List}
 use Prim.Native.Nat.{ℕ, _≤_}
 use native.Mathlib.Omega.{arith}
-use lib.IntN.{pos}
+use lib.IntN.{ℤ, pos}
 use mir.Syntax.{w64}
 use mir.Val.{SFits}
 use mir.Facts.{toZ-ofZ}
@@ -21,19 +22,36 @@ use Rattle.console.proofs.Rooms.{few-fields, few-kept, read-refused, re
 use Rattle.console.proofs.sheet_read.Statement.{statement}
 use Rattle.console.proofs.sheet_read.Tie as tie
 
-abbrev answer : tie.Start → Answer ℕ
-answer a = readingOf (a .args .sheet .now) (a .args .samples .now) (a .args .lengths .now) (a .args .totals .now) (a .args .fields .now)
+-- what is handed in, and the answer
+module _ (a : tie.Start) where
+  abbrev s : List ℕ
+  s = a .args .sheet .now
+
+  abbrev ys : List ℤ
+  ys = a .args .samples .now
+
+  abbrev ns : List ℕ
+  ns = a .args .lengths .now
+
+  abbrev ts : List ℤ
+  ts = a .args .totals .now
+
+  abbrev fs : List ℕ
+  fs = a .args .fields .now
+
+  abbrev answer : Answer ℕ
+  answer = readingOf s ys ns ts fs
 
 -- no room for the fields
 module _ (t : tie.Then1) where
   abbrev first : tie.Start
   first = t .before .before .before .before
 
-  few : answer first ≡ accepted (first .args .sheet .now) (refused 5 0)
-  few = few-fields (first .args .sheet .now) (first .args .samples .now) (first .args .lengths .now) (first .args .totals .now) (first .args .fields .now) (t .if1 .taken)
+  few : answer first ≡ accepted (s first) (refused 5 0)
+  few = few-fields (s first) (ys first) (ns first) (ts first) (fs first) (t .if1 .taken)
 
   kept : {C : Type 0} (new old : C) → old ≡ on-success (answer first) new old
-  kept = few-kept (first .args .sheet .now) (first .args .samples .now) (first .args .lengths .now) (first .args .totals .now) (first .args .fields .now) (t .if1 .taken)
+  kept = few-kept (s first) (ys first) (ns first) (ts first) (fs first) (t .if1 .taken)
 
 returns : tie.Need-returns
 returns c =
@@ -50,29 +68,29 @@ module _ (g : tie.After-read) where
   a = else1 .before .before .before .before
 
   -- what the callee promised
-  promised : headed (g .read .result) ≡ readOf (a .args .sheet .now) (a .args .samples .now) (a .args .lengths .now) (a .args .totals .now)
+  promised : headed (g .read .result) ≡ readOf (s a) (ys a) (ns a) (ts a)
   promised = g .read .ensures .0
 
   near : {number place : ℕ} → headed (g .read .result) ≡ refused number place → place ≤ 65536
-  near e = place-most (read-placed (a .args .sheet .now) (a .args .samples .now) (a .args .lengths .now) (a .args .totals .now)) (sym promised ∙ e)
+  near e = place-most (read-placed (s a) (ys a) (ns a) (ts a)) (sym promised ∙ e)
 
   refused-too : {number place : ℕ} → headed (g .read .result) ≡ refused number place → answer a ≡ refused number place
-  refused-too e = read-refused (a .args .sheet .now) (a .args .samples .now) (a .args .lengths .now) (a .args .totals .now) (a .args .fields .now) (else1 .if1 .left) (sym promised ∙ e)
+  refused-too e = read-refused (s a) (ys a) (ns a) (ts a) (fs a) (else1 .if1 .left) (sym promised ∙ e)
 
-  given-too : {f : Fields} → headed (g .read .result) ≡ given f → (f ≡ fields (a .args .sheet .now)) × (answer a ≡ given (segment-count (a .args .sheet .now)))
-  given-too e = read-given (a .args .sheet .now) (a .args .samples .now) (a .args .lengths .now) (a .args .totals .now) (a .args .fields .now) (else1 .if1 .left) (sym promised ∙ e)
+  given-too : {f : Fields} → headed (g .read .result) ≡ given f → (f ≡ fields (s a)) × (answer a ≡ given (segment-count (s a)))
+  given-too e = read-given (s a) (ys a) (ns a) (ts a) (fs a) (else1 .if1 .left) (sym promised ∙ e)
 
   -- the other lists are as the reader leaves them
-  as-read : {C : Type 0} (new old : C) → on-success (readOf (a .args .sheet .now) (a .args .samples .now) (a .args .lengths .now) (a .args .totals .now)) new old ≡ on-success (answer a) new old
-  as-read = read-lists (a .args .sheet .now) (a .args .samples .now) (a .args .lengths .now) (a .args .totals .now) (a .args .fields .now) (else1 .if1 .left)
+  as-read : {C : Type 0} (new old : C) → on-success (readOf (s a) (ys a) (ns a) (ts a)) new old ≡ on-success (answer a) new old
+  as-read = read-lists (s a) (ys a) (ns a) (ts a) (fs a) (else1 .if1 .left)
 
-  samples-are : g .read .last .1 .0 ≡ samplesRead (a .args .sheet .now) (a .args .samples .now) (a .args .lengths .now) (a .args .totals .now) (a .args .fields .now)
+  samples-are : g .read .last .1 .0 ≡ samplesRead (s a) (ys a) (ns a) (ts a) (fs a)
   samples-are = g .read .ensures .1 .0 ∙ as-read _ _
 
-  lengths-are : g .read .last .1 .1 .0 ≡ lengthsRead (a .args .sheet .now) (a .args .samples .now) (a .args .lengths .now) (a .args .totals .now) (a .args .fields .now)
+  lengths-are : g .read .last .1 .1 .0 ≡ lengthsRead (s a) (ys a) (ns a) (ts a) (fs a)
   lengths-are = g .read .ensures .1 .1 .0 ∙ as-read _ _
 
-  totals-are : g .read .last .1 .1 .1 .0 ≡ totalsRead (a .args .sheet .now) (a .args .samples .now) (a .args .lengths .now) (a .args .totals .now) (a .args .fields .now)
+  totals-are : g .read .last .1 .1 .1 .0 ≡ totalsRead (s a) (ys a) (ns a) (ts a) (fs a)
   totals-are = g .read .ensures .1 .1 .1 ∙ as-read _ _
 
 refusal-requires : tie.Need-refusal-requires
@@ -85,7 +103,7 @@ returns-2 c =
     let g = v .before .before .before .before .before .before in
     let r : SFits w64 (w .tell .result) = record { sfits = w .tell .ok } in
     let t = given-too g (ap headed (v .f .given .1)) in
-    let three-are = w .tell .ensures .1 ∙ ap (λ f. refill (three f) (a g .args .fields .now)) (t .0) in (
+    let three-are = w .tell .ensures .1 ∙ ap (λ f. refill (three f) (fs (a g))) (t .0) in (
       toZ-ofZ r ∙ w .tell .ensures .0 ∙ ap (λ f. pos (f .segments)) (t .0) ∙ ap code (sym (t .1)),
       (samples-are g, (lengths-are g, (totals-are g, rw (t .1) three-are))),
     )

@@ -38,14 +38,18 @@ module _ (g : tie.After-write) where
   promised : written (g .write .result) ≡ answer
   promised = g .write .ensures .0
 
-  bytes : g .write .last .1 .1 .1 .1 .0 ≡ writtenAfter (a .args .samples .now) (a .args .smoothing) (a .args .lengths .now) (a .args .totals .now) (a .args .out .now)
+  bytes : g .write .last .1 .1 .1 .1 .0
+      ≡ writtenAfter (a .args .samples .now) (a .args .smoothing) (a .args .lengths .now) (a .args .totals .now) (a .args .out .now)
   bytes = g .write .ensures .1
 
   few : {b : ℕ} → written (g .write .result) ≡ given b → b ≤ 1048608
-  few {b} e = bytes-few (a .args .samples .now) (a .args .smoothing) (a .args .lengths .now) (a .args .totals .now) (a .args .out .now) b (sym promised ∙ e)
+  few {b} e =
+      bytes-few (a .args .samples .now) (a .args .smoothing) (a .args .lengths .now) (a .args .totals .now) (a .args .out .now) b (sym promised ∙ e)
 
   plain : {r : ℤ} → r ≡ code (told answer) → length (a .args .lengths .now) ≤ farthest → r ≡ code answer
-  plain = plainly code (write-placed (a .args .samples .now) (a .args .smoothing) (a .args .lengths .now) (a .args .totals .now) (a .args .out .now) (omega arith))
+  plain =
+      plainly code
+      (write-placed (a .args .samples .now) (a .args .smoothing) (a .args .lengths .now) (a .args .totals .now) (a .args .out .now) (omega arith))
 
 cast-result : tie.Need-cast-result
 cast-result c = let b = c .before in record { sfits = omega (arith, few (b .before .before .before .before) (ap written (b .bytes .given .1))) }
