@@ -9,6 +9,7 @@ ghost use Rattle.denoise.specs.Line.{lineOf, lengthsOf, totalsOf};
 ghost use Rattle.denoise.specs.Dual.{balancesOf, balancesAfter};
 ghost use Rattle.denoise.specs.Check.{checked, checkOf};
 ghost use Rattle.denoise.specs.Limits.{refill, on-success};
+ghost use Rattle.denoise.specs.Records.{lengths-of, totals-of};
 ghost use Rattle.level.specs.Answer.{refused};
 ghost use Rattle.chart.specs.Chart.{markOf};
 ghost use Rattle.chart.specs.Whole.{segmentsOf, firstsOf, lastsOf, levelsOf};
@@ -22,6 +23,7 @@ use chart::Mark;
 use denoise::Checked;
 use denoise::Drawn;
 use denoise::Filled;
+use denoise::Segment;
 use sheet::Fields;
 use sheet::Reading;
 use sheet::Written;
@@ -93,6 +95,20 @@ pub extern "C" fn series_check(
         r ≡ code-of-none (checkOf (now (samples .entry)) smoothing (now (lengths .entry)) (now (totals .entry)))) ⌝ }
 {
     verdict(denoise::check(samples, smoothing, lengths, totals))
+}
+
+#[no_mangle]
+pub extern "C" fn series_check_segments(
+    samples: &[i32],
+    smoothing: u64,
+    segments: &[Segment],
+) -> i64
+    ensures answer { λ r. ⌜ r ≡
+        code-of-none (told (checkOf (now (samples .entry)) smoothing (lengths-of (now (segments .entry))) (totals-of (now (segments .entry))))) ⌝ }
+    ensures plain { λ r. ⌜ (length (now (segments .entry)) ≤ farthest →
+        r ≡ code-of-none (checkOf (now (samples .entry)) smoothing (lengths-of (now (segments .entry))) (totals-of (now (segments .entry))))) ⌝ }
+{
+    verdict(denoise::check_segments(samples, smoothing, segments))
 }
 
 #[no_mangle]
