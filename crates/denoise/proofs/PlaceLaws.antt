@@ -13,7 +13,7 @@ use Rattle.optimality.specs.Series.{Minute, plain}
 use Rattle.optimality.specs.Segments.{Segment, then-v, by-divisor, side, between, test, break-from, first-break}
 use Rattle.optimality.specs.Plain.{length-plain, segments}
 use Rattle.level.specs.Answer.{Answer, refused, given, refuse-if, refuse-at}
-use Rattle.denoise.specs.Limits.{found, first-from, first, bad-sample, in-limits}
+use Rattle.denoise.specs.Limits.{found, first-from, bad-sample, in-limits}
 use Rattle.denoise.specs.Shape.{sum, beyond, equal-levels, equal-from, well-shaped}
 use Rattle.denoise.specs.Line.{lineOf}
 use Rattle.denoise.specs.Dual.{balancesOf}

@@ -6,7 +6,7 @@ use native.Mathlib.Omega.{arith}
 use mir.Syntax.{w64}
 use mir.Val.{SFits}
 use mir.Facts.{toZ-ofZ, toZ-pos}
-use Rattle.level.specs.Answer.{Answer, refused}
+use Rattle.level.specs.Answer.{refused}
 use Rattle.denoise.specs.Line.{drawn, lineOf, lengthsOf, totalsOf}
 use Rattle.denoise.proofs.PlaceLaws.{place-most, line-placed}
 use Rattle.console.specs.Code.{code}

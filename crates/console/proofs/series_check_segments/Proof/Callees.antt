@@ -37,16 +37,19 @@ use Rattle.console.proofs.verdict as verdict
 use Rattle.console.proofs.verdict.Symbol.{name as #verdict}
 
 -- ---- arguments, their machine values, and what is then said
-abbrev pub CheckArgs : Type 0
-CheckArgs = RefT (List ℤ) × (ℕ × (RefT (List Segment) × Unit {0}))
+abbrev pub Args : Type 0
+Args = RefT (List ℤ) × (ℕ × (RefT (List Segment) × Unit {0}))
 
-abbrev pub check-vals : (κ κ′ : Lft) → CheckArgs → Vals check.signature (κ, (κ′, tt))
-check-vals κ κ′ x = (sliceVal (x .0 .ptr) (length (x .0 .now)) ∷ [], (vint w64 (x .1 .0) ∷ [], (sliceVal (x .1 .1 .0 .ptr) (length (x .1 .1 .0 .now)) ∷ [], tt)))
+abbrev pub slice : {X : Type 0} → RefT (List X) → Val
+slice r = sliceVal (r .ptr) (length (r .now))
+
+abbrev pub vals : Args → List Val × (List Val × (List Val × Unit {0}))
+vals x = (slice (x .0) ∷ [], (vint w64 (x .1 .0) ∷ [], (slice (x .1 .1 .0) ∷ [], tt)))
 
 abbrev pub verdict-vals : Val → Vals verdict.signature tt
 verdict-vals v = (v ∷ [], tt)
 
-abbrev pub answer : CheckArgs → Answer (Unit {0})
+abbrev pub answer : Args → Answer (Unit {0})
 answer x = checkOf (x .0 .now) (x .1 .0) (lengths-of (x .1 .1 .0 .now)) (totals-of (x .1 .1 .0 .now))
 
 -- ---- the contracts
@@ -61,7 +64,7 @@ module _ {M : Type 1} (𝓤 : URA M) (H : Heap 𝓤) (A : Atoms 𝓤) (mem : Mem
     pub check : Triple 𝓤 (C #check) Check
     pub verdict : Triple 𝓤 (C #verdict) Verdict
 
-  pub said-check : (κ κ′ : Lft) (x : CheckArgs) (r : Checked)
+  pub said-check : (κ κ′ : Lft) (x : Args) (r : Checked)
       → ent 𝓤 (ensured 𝓤 H A check.ended (check.clauses 𝓤 H A mem run) (κ, (κ′, tt)) x tt r) (fact 𝓤 (checked r ≡ answer x))
   said-check κ κ′ x r = exE 𝓤 _ (λ ws. snd∗ 𝓤 (sem 𝓤 H A (lasts check.ended (κ, (κ′, tt)) x ws)) (fact 𝓤 (checked r ≡ answer x)))
 
@@ -70,11 +73,11 @@ module _ {M : Type 1} (𝓤 : URA M) (H : Heap 𝓤) (A : Atoms 𝓤) (mem : Mem
   said-verdict k r = exE 𝓤 _ (λ ws. snd∗ 𝓤 (sem 𝓤 H A (lasts verdict.ended tt (k, tt) ws)) (fact 𝓤 (r ≡ code-of-none (told (checked k)))))
 
 module _ {M : Type 1} (𝓤 : URA M) (H : Heap 𝓤) (A : Atoms 𝓤) (W : Given 𝓤 H A) (mem : Memory → SProp 𝓤) (run : Routine → Fun 𝓤) where
-  pub asked-check : (κ κ′ : Lft) (q q′ : Share) (x : CheckArgs)
-      → ent 𝓤 (onEntry 𝓤 H A check.signature (κ, (κ′, tt)) (q, (q′, tt)) x (check-vals κ κ′ x))
-      (Check 𝓤 H A mem run .pre (((κ, (κ′, tt)), (q, (q′, tt)), tt, x, check-vals κ κ′ x), tt))
+  pub asked-check : (κ κ′ : Lft) (q q′ : Share) (x : Args)
+      → ent 𝓤 (onEntry 𝓤 H A check.signature (κ, (κ′, tt)) (q, (q′, tt)) x (vals x))
+      (Check 𝓤 H A mem run .pre (((κ, (κ′, tt)), (q, (q′, tt)), tt, x, vals x), tt))
   asked-check κ κ′ q q′ x =
-      qed W ((‵ (flft κ q) ⊛ ‵ (flft κ′ q′) ⊛ ‵ ftrue) ∷ ‵ (owns (ShrSlice (named 0) κ i32 ∷ u64 ∷ ShrSlice (named 1) κ′ T.the-row ∷ []) x (check-vals κ κ′ x)) ∷ []) ∵
+      qed W ((‵ (flft κ q) ⊛ ‵ (flft κ′ q′) ⊛ ‵ ftrue) ∷ ‵ (owns (ShrSlice (named 0) κ i32 ∷ u64 ∷ ShrSlice (named 1) κ′ T.the-row ∷ []) x (vals x)) ∷ []) ∵
       join ! $ frame ! $ done !
 
   pub asked-verdict : (k : Checked) (v : Val)
