@@ -2,6 +2,7 @@
  * falls for short series, a taut string with two hulls for long ones, the conditions minute by minute for checks. Prints one line of counts,
  * or the first input on which they differ. */
 #include <inttypes.h>
+#include <stddef.h>
 #include <stdio.h>
 #include <stdlib.h>
 #include <string.h>
@@ -76,6 +77,20 @@ static void compare_balances(const int32_t *y, size_t n, uint64_t lambda, const 
             fail("a balance past the last was touched", y, n, lambda, line);
 }
 
+static dawhikura_segment records[MOST];
+_Static_assert(sizeof records[0] == 16 && offsetof(dawhikura_segment, total) == 8, "a record is 16 bytes, its total the last 8");
+
+/* of the same line as records, with anything in the bytes between their fields */
+static i64 check_records(const int32_t *y, size_t n, uint64_t lambda, const Line *line)
+{
+    memset(records, 0xa5, line->n * sizeof records[0]);
+    for (size_t i = 0; i < line->n; i++) {
+        records[i].length = line->length[i];
+        records[i].total = line->total[i];
+    }
+    return series_check_segments(y, n, lambda, records, line->n);
+}
+
 static void compare_check(const int32_t *y, size_t n, uint64_t lambda, const Line *line, size_t totals)
 {
     i64 expected = paper_check(y, n, lambda, line->length, line->n, line->total, totals);
@@ -86,6 +101,8 @@ static void compare_check(const int32_t *y, size_t n, uint64_t lambda, const Lin
         printf("expected %" PRId64 ", got %" PRId64 ": ", expected, r);
         fail("another answer of the check", y, n, lambda, line);
     }
+    if (totals == line->n && check_records(y, n, lambda, line) != expected)
+        fail("another answer of the check of records", y, n, lambda, line);
 }
 
 static uint64_t state = 0x9e3779b97f4a7c15u;

@@ -612,7 +612,8 @@ static void on_stack(size_t bytes, void (*calls)(void))
 
 static int32_t stack_y[MOST], stack_samples[MOST];
 static Line stack_line;
-static i64 stack_totals[MOST], answers[8];
+static i64 stack_totals[MOST], answers[9];
+static dawhikura_segment stack_records[MOST];
 static uint32_t stack_lengths[MOST], stack_lasts[MOST];
 static double stack_levels[MOST];
 
@@ -624,6 +625,7 @@ static void small_calls(void)
     answers[3] = chart_segments(MOST, stack_line.length, stack_line.n, stack_line.total, stack_line.n, stack_lengths, MOST, stack_lasts, MOST, stack_levels, MOST);
     answers[4] = chart_mark(MOST, stack_line.length, stack_line.n, stack_line.total, stack_line.n, MOST, stack_levels, 2);
     answers[5] = sheet_write(stack_y, MOST, 50, stack_line.length, stack_line.n, stack_line.total, stack_line.n, sheet, SHEET);
+    answers[8] = series_check_segments(stack_y, MOST, 50, stack_records, stack_line.n);
 }
 
 static void large_calls(void)
@@ -640,10 +642,14 @@ static void stacks(void)
     for (size_t i = 0; i < MOST; i++)
         stack_y[i] = random_sample(&state, 1);
     paper_line_long(stack_y, MOST, 50, &stack_line);
+    for (size_t i = 0; i < stack_line.n; i++) {
+        stack_records[i].length = stack_line.length[i];
+        stack_records[i].total = stack_line.total[i];
+    }
     on_stack(16384, small_calls);
     on_stack((1 << 20) + 16384, large_calls);
-    i64 m = (i64)stack_line.n, size = 32 + 4 * MOST + 12 * m, want[] = {m, MOST, 0, m, 0, size, m, size};
-    for (int i = 0; i < 8; i++)
+    i64 m = (i64)stack_line.n, size = 32 + 4 * MOST + 12 * m, want[] = {m, MOST, 0, m, 0, size, m, size, 0};
+    for (int i = 0; i < 9; i++)
         must(answers[i], want[i]);
 }
 
