@@ -22,10 +22,10 @@ use Rattle.sheet.specs.Read.{accepted, readOf}
 use Rattle.sheet.specs.Complete.{completeOf, completedAfter, fine}
 use Rattle.sheet.specs.declared.Fields.{Fields}
 use Rattle.sheet.proofs.Chains.{passed, stopped, accepted-alike}
+use Rattle.sheet.proofs.ReadLaws.{in-order, judgement}
 use Rattle.sheet.proofs.CompleteLaws.{Completed}
 use Rattle.sheet.proofs.CompleteLaws as CompleteLaws
 use Rattle.complete_sheet.specs.Report.{too-long, line-text, line-shown, refusal, answer-text, no-samples, no-lengths, no-totals, reportOf}
-use Rattle.complete_sheet.proofs.Readings.{in-order, judgement}
 
 module _ (s : List ℕ) where
   pub report-too-long : 16416 < length s → reportOf s ≡ too-long
@@ -94,7 +94,7 @@ module _ (s o : List ℕ) (c : Completed s o) (accepts : accepted s fine ≡ fin
   some =
       let a : length (lengths o) ≡ segment-count o = length-records 12 read-length _ _ in
       let b : length (samples s) ≡ minutes s = length-records 4 read-sample _ _ in
-      ⊎-elim (λ z. absurd (omega (arith, no-segments (lengths o) (totals o) (omega arith), c .line .formed .long, length-plain (samples s), in-order s accepts .some))) (λ z. z) (eq-zero-or-pos (segment-count o))
+      ⊎-elim (λ z. absurd (omega (arith, no-segments (lengths o) (totals o) (omega arith), c .meets .formed .long, length-plain (samples s), in-order s accepts .some))) (λ z. z) (eq-zero-or-pos (segment-count o))
 
   -- once it is completed, it has the same report
   pub report-again : reportOf o ≡ reportOf s

@@ -21,23 +21,19 @@ use Rattle.optimality.specs.Range.{Bounded, Within, in-range}
 use Rattle.optimality.specs.Plain.{plain-positive, length-plain, segments, plain-formed, lens, totals, formed-lists, same-lists}
 use Rattle.optimality.specs.Unique.{unique}
 use Rattle.optimality.specs.Correct.{plain-correct}
-use Rattle.level.specs.Answer.{Answer, refused, given, refuse-at}
-use Rattle.denoise.specs.Limits.{first-from, first, bad-sample, in-limits}
+use Rattle.level.specs.Answer.{Answer, refused, given, when-given, refuse-at}
+use Rattle.denoise.specs.Limits.{first-from, first, bad-sample, in-limits, Limited}
 use Rattle.denoise.specs.Shape.{sum, beyond, equal-levels, equal-from}
 use Rattle.denoise.specs.Check.{checkOf}
+use Rattle.denoise.specs.Optimality.{Meets, Least, PassesOptimal}
 use Rattle.denoise.specs.Walk.{segment}
 use Rattle.denoise.proofs.First.{none-found}
 use Rattle.denoise.proofs.Levels.{unlike, differ}
 use Rattle.denoise.proofs.Shaped.{level, pair}
 use Rattle.denoise.proofs.Refusals.{if-past, at-past, never}
+use Rattle.denoise.proofs.OptimalityLaws.{line-meets, meets-line, line-least}
 
 -- ---- the limits of a series and its smoothing
-pub record Limited (ys : List ℤ) (L : ℕ) : Type 0 where
-  pub some : 0 < length ys
-  pub few : length ys ≤ 65536
-  pub smooth : L ≤ 1099511627776
-  pub samples : Bounded 16777216 (plain ys)
-
 bounded : (ys : List ℤ) (i : ℕ) → first-from bad-sample i ys ≡ none → Bounded 16777216 (plain ys)
 unfolding Bounded plain first-from
 bounded [] i e = tt
@@ -165,6 +161,20 @@ module _ (ys : List ℤ) (L : ℕ) (ns : List ℕ) (ts : List ℤ) where
       back h =
           let t = in-range (pos L) 16777216 (plain ys) ss (plain-positive ys) (0⩽pos L) (h .0 .samples) (h .2) in
           comes (record { limited = h .0; pairs = h .1; formed = h .2 .formed; totals = t }) ∙ ap (λ o. refuse-at o 9 (given tt)) (h .2 .meets)
+
+  -- what a call promises of its answer, from what it is
+  pub promised : (a : Answer (Unit {0})) → a ≡ checkOf ys L ns ts → (a ≡ checkOf ys L ns ts) × (PassesOptimal ys L ns ts a × when-given a (λ _. Least ys L ss))
+  promised a e = (e, (rw e (go, back), least a e))
+    where
+      go : checkOf ys L ns ts ≡ given tt → Limited ys L × (length ns ≡ length ts) × Meets ys L ss
+      go p = let r = passes↔ .0 p in (r .0, r .1, line-meets ys L ss (r .2))
+
+      back : Limited ys L × (length ns ≡ length ts) × Meets ys L ss → checkOf ys L ns ts ≡ given tt
+      back h = passes↔ .1 (h .0, h .1, meets-line ys L ss (h .2))
+
+      least : (a : Answer (Unit {0})) → a ≡ checkOf ys L ns ts → when-given a (λ _. Least ys L ss)
+      least (refused number place) e = tt
+      least (given x) e = line-least ys L ss (passes↔ .0 (sym e) .2)
 
   -- which is the machine's
   pub passes-line↔ : (checkOf ys L ns ts ≡ given tt) ↔ (Limited ys L × (ns ≡ lens (plain-line (pos L) ys)) × (ts ≡ totals (plain-line (pos L) ys)))

@@ -17,6 +17,7 @@ pub mod Shaped
 pub mod Passed
 pub mod Followed
 pub mod Concluded
+pub mod OptimalityLaws
 pub mod CheckLaws
 pub mod PlaceLaws
 pub mod LineLaws

@@ -1,5 +1,6 @@
 -- What the contracts of `denoise` mean.
 pub mod Limits
+pub mod Optimality
 pub mod Line
 pub mod Shape
 pub mod Check

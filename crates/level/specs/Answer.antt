@@ -16,6 +16,11 @@ pub data Answer (A : Type 0) : Type 0 where
   refused : ℕ → ℕ → Answer A
   given : A → Answer A
 
+-- what is said of the value given; of a refusal nothing
+abbrev pub when-given : {A : Type 0} → Answer A → (A → Type 0) → Type 0
+when-given (refused number place) says = Unit {0}
+when-given (given x) says = says x
+
 -- the refusal with a number and a place where a condition is met; else what comes after it in the order
 abbrev pub refuse-if : {A : Type 0} → Bool → ℕ → ℕ → Answer A → Answer A
 refuse-if true number place rest = refused number place

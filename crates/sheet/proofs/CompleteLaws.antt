@@ -3,7 +3,7 @@
 use mathlib.Core.Path.{_≡_, refl, sym, ap, ap₂, _∙_, subst}
 use mathlib.Core.Bool.{Bool, true, false, _&&_}
 use mathlib.Core.List.{List}
-use Prim.Native.Nat.{ℕ, _<_, _≤_}
+use Prim.Native.Nat.{ℕ, _≤_}
 use native.Mathlib.Omega.{arith}
 use lib.Dec.{eqb}
 use lib.ListN.{length, take, length-map}
@@ -11,21 +11,20 @@ use lib.Seq.{take-at}
 use lib.IntN.{ℤ, pos}
 use Rattle.integers.specs.Order.{0⩽pos}
 use Rattle.optimality.specs.Series.{plain}
-use Rattle.optimality.specs.Conditions.{Optimal}
-use Rattle.optimality.specs.Segments.{IsLine, Scale, numerators}
-use Rattle.optimality.specs.Plain.{segments, lens}
+use Rattle.optimality.specs.Segments.{IsLine}
+use Rattle.optimality.specs.Plain.{segments, lens, unique-lists}
 use Rattle.optimality.specs.Plain as Plain
 use Rattle.optimality.specs.Machine.{plain-line}
-use Rattle.optimality.specs.Minimum.{PlainMinimum}
-use Rattle.optimality.specs.Candidate.{plain-minimum}
-use Rattle.optimality.specs.Verdict as Verdict
-use Rattle.level.specs.Answer.{Answer, given}
-use Rattle.denoise.specs.Limits.{in-limits, refill}
+use Rattle.level.specs.Answer.{Answer, refused, given, when-given}
+use Rattle.denoise.specs.Limits.{in-limits, refill, Limited}
 use Rattle.denoise.specs.Check.{meets-conditions}
-use Rattle.denoise.proofs.CheckLaws.{Limited, passes-line↔}
-use Rattle.sheet.specs.Format.{smoothing, samples, lengths, totals, size}
+use Rattle.denoise.specs.Optimality.{Meets, Only, Least}
+use Rattle.denoise.proofs.OptimalityLaws.{line-meets, meets-line, line-least}
+use Rattle.denoise.proofs.CheckLaws.{passes-line↔}
+use Rattle.sheet.specs.Format.{smoothing, samples, lengths, totals, filed-line, size}
 use Rattle.sheet.specs.HeadLaws.{InOrder}
 use Rattle.sheet.specs.HeadLaws as HeadLaws
+use Rattle.sheet.specs.ListLaws.{length-records}
 use Rattle.sheet.specs.Read.{unless, filed, accepted}
 use Rattle.sheet.specs.Complete.{completed, finishOf, completeOf, completedAfter, fine}
 use Rattle.sheet.proofs.Chains.{Alike, pass, passed, limits-alike, lists-alike}
@@ -51,11 +50,9 @@ module _ (ys : List ℤ) (L : ℕ) (ok : Limited ys L) where
 pub record Completed (s o : List ℕ) : Type 0 where
   pub same-samples : samples o ≡ samples s
   pub same-smoothing : smoothing o ≡ smoothing s
-  -- (6) and (7), segment by segment, and minute by minute over any scale
-  pub line : IsLine (pos (smoothing s)) (pos 0) (pos 0) (plain (samples s)) (segments (lengths o) (totals o))
-  pub optimal : (Q : ℕ) → 0 < Q → Scale Q (segments (lengths o) (totals o)) → Optimal (pos Q) (pos (smoothing s)) (pos 0) (pos 0) (plain (samples s)) (numerators Q (segments (lengths o) (totals o)))
-  -- every rival's cost exceeds its own by half the squared distances or more
-  pub least : PlainMinimum (pos (smoothing s)) (samples s) (segments (lengths o) (totals o))
+  pub meets : Meets (samples s) (smoothing s) (filed-line o)
+  pub only : Only (samples s) (smoothing s) (lengths o) (totals o)
+  pub least : Least (samples s) (smoothing s) (filed-line o)
   -- every reader accepts it, and completing it again writes the same bytes
   pub accepted-again : accepted o fine ≡ fine
   pub completed-again : completed (samples o) (smoothing o) ≡ o
@@ -65,15 +62,17 @@ sheet-completed s ok =
     let ys = samples s in
     let L = smoothing s in
     let a = line-accepted ys L ok in
-    let l = plain-line (pos L) ys in
-    let e : l ≡ segments (lengths (completed ys L)) (totals (completed ys L)) = as-lists ys L ok ∙ sym (ap₂ segments (lengths-of ys L _ _ a) (totals-of ys L _ _ a)) in
-    let line : IsLine (pos L) (pos 0) (pos 0) (plain ys) (segments (lengths (completed ys L)) (totals (completed ys L))) = subst (λ ss. IsLine (pos L) (pos 0) (pos 0) (plain ys) ss) e (line-is ys L ok) in
+    let o = completed ys L in
+    let n = lengths-of ys L _ _ a in
+    let t = totals-of ys L _ _ a in
+    let line : IsLine (pos L) (pos 0) (pos 0) (plain ys) (filed-line o) = subst (λ ss. IsLine (pos L) (pos 0) (pos 0) (plain ys) ss) (as-lists ys L ok ∙ sym (ap₂ segments n t)) (line-is ys L ok) in
+    let same : length (lengths o) ≡ length (totals o) = length-records _ _ _ _ ∙ sym (length-records _ _ _ _) in
     record {
       same-samples = samples-of ys L _ _ a;
       same-smoothing = smoothing-of ys L _ _ a;
-      line = line;
-      optimal = Verdict.optimal (pos L) (pos 0) (pos 0) (plain ys) (segments (lengths (completed ys L)) (totals (completed ys L))) (0⩽pos L) line;
-      least = plain-minimum (pos L) ys (segments (lengths (completed ys L)) (totals (completed ys L))) (0⩽pos L) line;
+      meets = line-meets ys L (filed-line o) line;
+      only = λ ns ts p h. unique-lists (pos L) ys ns (lengths o) ts (totals o) (0⩽pos L) p same (meets-line ys L (segments ns ts) h) line;
+      least = line-least ys L (filed-line o) line;
       accepted-again = accepts ys L _ _ a fine;
       completed-again = ap₂ completed (samples-of ys L _ _ a) (smoothing-of ys L _ _ a);
     }
@@ -88,7 +87,7 @@ module _ (s out : List ℕ) (b : ℕ) (e : completeOf s out ≡ given b) where
   limited : Limited (samples s) (smoothing s)
   limited = within-limits (samples s) (smoothing s) (lengths s) (totals s) (lists .1)
 
-  sized : (b ≤ length out) × (size (length (samples s)) (length (plain-line (pos (smoothing s)) (samples s))) ≡ b)
+  pub sized : (b ≤ length out) × (size (length (samples s)) (length (plain-line (pos (smoothing s)) (samples s))) ≡ b)
   sized = has-room out _ b (lists .0)
 
   -- the number that is answered counts bytes of the output, of which no sheet has more than this
@@ -98,9 +97,32 @@ module _ (s out : List ℕ) (b : ℕ) (e : completeOf s out ≡ given b) where
   pub bytes-few : b ≤ 1048608
   bytes-few = omega (arith, sized .1, line-few (samples s) (smoothing s) (limited .some), limited .few)
 
+  pub bytes-count : length (completed (samples s) (smoothing s)) ≡ b
+  bytes-count =
+      length-of (samples s) (smoothing s) _ _ (line-accepted (samples s) (smoothing s) limited)
+      ∙ ap (size (length (samples s))) (length-map (plain-line (pos (smoothing s)) (samples s)) _)
+      ∙ sized .1
+
   bytes-written : take b (completedAfter s out) ≡ completed (samples s) (smoothing s)
   unfolding refill
-  bytes-written = rw e (take-at (completed (samples s) (smoothing s)) _ b (length-of (samples s) (smoothing s) _ _ (line-accepted (samples s) (smoothing s) limited) ∙ ap (size (length (samples s))) (length-map (plain-line (pos (smoothing s)) (samples s)) _) ∙ sized .1))
+  bytes-written = rw e (take-at (completed (samples s) (smoothing s)) _ b bytes-count)
 
   pub completes : Completed s (take b (completedAfter s out))
   completes = subst (λ o. Completed s o) (sym bytes-written) (sheet-completed s limited)
+
+-- ---- what a call promises of its answer and of the output, from what they are
+module _ (s out : List ℕ) where
+  -- of the bytes of o that an answer counts
+  abbrev Promises : Answer ℕ → List ℕ → Type 0
+  Promises a o =
+      when-given a (λ b. (samples (take b o) ≡ samples s) × (smoothing (take b o) ≡ smoothing s))
+      × (when-given a (λ b. Meets (samples s) (smoothing s) (filed-line (take b o)))
+      × (when-given a (λ b. Only (samples s) (smoothing s) (lengths (take b o)) (totals (take b o)))
+      × when-given a (λ b. Least (samples s) (smoothing s) (filed-line (take b o)))))
+
+  pub promised : (a : Answer ℕ) (o : List ℕ) → (a ≡ completeOf s out) × (o ≡ completedAfter s out) → (a ≡ completeOf s out) × ((o ≡ completedAfter s out) × Promises a o)
+  promised a o t = (t .0, (t .1, rw (t .0, t .1) (of-answer (completeOf s out) refl)))
+    where
+      of-answer : (a : Answer ℕ) → completeOf s out ≡ a → Promises a (completedAfter s out)
+      of-answer (refused number place) e = (tt, (tt, (tt, tt)))
+      of-answer (given b) e = let c = completes s out b e in ((c .same-samples, c .same-smoothing), (c .meets, (c .only, c .least)))

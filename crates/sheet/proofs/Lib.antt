@@ -1,10 +1,12 @@
--- What the functions' proofs share.
+-- What the functions' proofs share, and the laws of the calls.
 pub mod Fill
 pub mod Writes
 pub mod Chains
-pub mod CompleteLaws
+pub mod LoadLaws
 pub mod Judged
 pub mod OwnLine
 pub mod PlaceLaws
-pub mod RoundTrip
 pub mod SheetOf
+pub mod ReadLaws
+pub mod CompleteLaws
+pub mod RoundTrip

@@ -1,125 +1,73 @@
--- The line in the completer's lists: drawn by `denoise::line` where none was filed, and otherwise the one that passed the check, which is the same.
-use mathlib.Core.Path.{_≡_, refl, sym, ap, _∙_}
-use mathlib.Core.List.{List, _++_}
+-- The line in the completer's lists: drawn where none was filed, and otherwise the one that passed the check, which is the same.
+use mathlib.Core.Path.{_≡_, sym, ap, _∙_}
+use mathlib.Core.List.{List}
 use mathlib.Core.Logic.{⊎-elim}
 use native.Mathlib.Omega.{arith}
 use Prim.Native.Nat.{ℕ, _<_, _≤_}
-use lib.ListN.{length, take, drop, length-map, length-append, length-drop}
-use lib.Seq.{take-at}
+use lib.ListN.{length, take, length-map, length-take}
+use lib.Seq.{length-take-le}
 use lib.IntN.{ℤ, pos}
-use borrow.Author.Tests.{le-ltb, lt-ltb}
-use Rattle.optimality.specs.Segments.{Segment, lengths}
+use borrow.Author.Tests.{le-ltb}
+use Rattle.optimality.specs.Segments.{Segment}
 use Rattle.optimality.specs.Plain.{lens, totals}
 use Rattle.optimality.specs.Machine.{plain-line}
-use Rattle.level.specs.Answer.{Answer, refused, given}
-use Rattle.denoise.specs.Limits.{in-limits, refill}
+use Rattle.level.specs.Answer.{Answer, refused, given, when-given}
+use Rattle.denoise.specs.Limits.{in-limits}
 use Rattle.denoise.specs.Line.{lineOf, lengthsOf, totalsOf}
-use Rattle.denoise.proofs.Admitted.{within, passed}
-use Rattle.denoise.proofs.Refill.{take-refill, length-refill}
-use Rattle.sheet.specs.Answer.{fields}
-use Rattle.sheet.specs.Format.{minutes, segment-count, smoothing, samples, read-sample, read-length, size, sheet-bytes}
-use Rattle.sheet.specs.Format as Format
-use Rattle.sheet.specs.ListLaws.{length-records}
-use Rattle.sheet.specs.SheetLaws.{length-sheet-bytes}
+use Rattle.denoise.proofs.Admitted.{within}
+use Rattle.denoise.proofs.LineLaws.{lists, lengths-are, totals-are}
 use Rattle.sheet.specs.Read.{filed}
-use Rattle.sheet.specs.Complete.{finishOf, finishedAfter, completeOf, completedAfter, fine, Ready, Has}
-use Rattle.sheet.specs.declared.Fields.{Fields}
-use Rattle.sheet.proofs.Judged.{line-few, Judged, judged}
+use Rattle.sheet.specs.Complete.{fine, Has}
+use Rattle.sheet.proofs.Chains.{passed, lists-alike}
+use Rattle.sheet.proofs.Judged.{line-few, judged}
 
-module _ (ys : List ℤ) (L m : ℕ) (ns : List ℕ) (ts : List ℤ) (ready : Ready ys L m ns ts) where
+module _ (ys : List ℤ) (L : ℕ) where
   abbrev l : List Segment
   l = plain-line (pos L) ys
 
-  few : length ys ≤ 65536
-  few = within ys L (ready .limited) .limited .minutes
-
-  pub fewer : length l ≤ length ys
-  fewer = line-few ys L (within ys L (ready .limited) .some)
-
-  pub draws : lineOf ys L ns ts ≡ given (length l)
-  draws = passed ys L _ (ready .limited) ∙ rw (le-ltb (length ns) (length ys) (ready .lengths-room), le-ltb (length ts) (length ys) (ready .totals-room))
-
-  pub drawn-line : (k : ℕ) (ns′ : List ℕ) (ts′ : List ℤ) → k ≡ length l → ns′ ≡ lengthsOf ys L ns ts → ts′ ≡ totalsOf ys L ns ts → Has l k ns′ ts′
-  drawn-line k ns′ ts′ e p q =
-      let p′ : ns′ ≡ refill (lens l) ns = p ∙ rw draws in
-      let q′ : ts′ ≡ refill (totals l) ts = q ∙ rw draws in
-      let a : length (lens l) ≡ length l = length-map l _ in
-      let b : length (totals l) ≡ length l = length-map l _ in
-      let rn = ready .lengths-room in
-      let rt = ready .totals-room in
+  -- two lists that begin with the line of a series that is not empty
+  pub has : (m : ℕ) (ns : List ℕ) (ts : List ℤ) → 0 < length ys → length ys ≤ 65536 → m ≡ length l → take m ns ≡ lens l → take m ts ≡ totals l → Has l m ns ts
+  has m ns ts some few e p q =
+      let fewer = line-few ys L some in
+      let a : length (take m ns) ≡ m = ap length p ∙ length-map l _ ∙ sym e in
+      let b : length (take m ts) ≡ m = ap length q ∙ length-map l _ ∙ sym e in
       record {
         count = e;
-        few = omega (arith, fewer, few);
-        lengths = rw (p′, e, ← a) (take-refill (lens l) ns);
-        totals = rw (q′, e, ← b) (take-refill (totals l) ts);
-        lengths-room = rw p′ (omega (arith, length-refill (lens l) ns (omega (arith, a, fewer)), fewer));
-        totals-room = rw q′ (omega (arith, length-refill (totals l) ts (omega (arith, b, fewer)), fewer));
+        few = omega arith;
+        lengths = p;
+        totals = q;
+        lengths-room = omega (arith, length-take m ns);
+        totals-room = omega (arith, length-take m ts);
       }
 
-  pub filed-line : 0 < m → Has l m ns ts
-  filed-line h =
-      let o = ready .own h in
-      let rn = ready .lengths-room in
-      let rt = ready .totals-room in
-      record {
-        count = o .0;
-        few = omega (arith, o .0, fewer, few);
-        lengths = o .1 .0;
-        totals = o .1 .1;
-        lengths-room = omega (arith, o .0, fewer);
-        totals-room = omega (arith, o .0, fewer);
-      }
+  module _ (ns : List ℕ) (ts : List ℤ) where
+    -- ---- drawn
+    pub drawn-has : (m : ℕ) (ns′ : List ℕ) (ts′ : List ℤ) → lineOf ys L ns ts ≡ given m → ns′ ≡ lengthsOf ys L ns ts → ts′ ≡ totalsOf ys L ns ts → Has l m ns′ ts′
+    drawn-has m ns′ ts′ e p q =
+        let k = lists ys L ns ts m e in
+        has m ns′ ts′ (k .0 .some) (k .0 .few) (k .1) (ap (take m) p ∙ lengths-are ys L ns ts m e .0) (ap (take m) q ∙ totals-are ys L ns ts m e .0)
 
--- lists that were loaded and passed, with what they had after them
-pub ready : (ys : List ℤ) (L m : ℕ) (ns : List ℕ) (ts : List ℤ) (ns₀ : List ℕ) (ts₀ : List ℤ) → Judged ys L ns ts → length ns ≡ m
-    → length ys ≤ length ns₀ → length ys ≤ length ts₀ → Ready ys L m (ns ++ drop m ns₀) (ts ++ drop m ts₀)
-ready ys L m ns ts ns₀ ts₀ j e hn ht =
-    let fewer = j .fewer in
-    let same = j .same in
-    record {
-      limited = j .limited;
-      lengths-room = omega (arith, length-append ns (drop m ns₀), length-drop m ns₀);
-      totals-room = omega (arith, length-append ts (drop m ts₀), length-drop m ts₀);
-      own =
-          λ h.
-          ⊎-elim (λ z. absurd (omega arith))
-          (λ z. (sym e ∙ ap length (z .0) ∙ length-map (plain-line (pos L) ys) _, (take-at ns _ m e ∙ z .0, take-at ts _ m (omega arith) ∙ z .1)))
-          (j .line);
-    }
+    pub room-to-draw : length ys ≤ length ns → length ys ≤ length ts → lineOf ys L ns ts ≡ in-limits ys L (given (length l))
+    room-to-draw hn ht = rw (le-ltb (length ns) (length ys) hn, le-ltb (length ts) (length ys) ht)
 
--- ---- the end of a completing call
-module _ (ys : List ℤ) (L : ℕ) (out : List ℕ) (m : ℕ) where
-  abbrev l′ : List Segment
-  l′ = plain-line (pos L) ys
+    -- the lines of an answer that a call gives: k segments were filed
+    abbrev Answered : ℕ → Answer ℕ → List ℕ → List ℤ → Type 0
+    Answered k a ns′ ts′ = (a ≡ in-limits ys L (filed ys L (take k ns) (take k ts) (given (length l)))) × when-given a (λ m. Has l m ns′ ts′)
 
-  pub too-short : m ≡ length l′ → length out < size (length ys) m → (refused 5 0 ≡ finishOf ys L out) × (out ≡ finishedAfter ys L out)
-  too-short e h =
-      let r : finishOf ys L out ≡ refused 5 0 = rw (lt-ltb (length out) (size (length ys) (length l′)) (omega arith)) in
-      (sym r, rw r)
+    pub drawn-line : (k : ℕ) (a : Answer ℕ) (ns′ : List ℕ) (ts′ : List ℤ) → k ≡ 0 → length ys ≤ length ns → length ys ≤ length ts
+        → a ≡ lineOf ys L ns ts → ns′ ≡ lengthsOf ys L ns ts → ts′ ≡ totalsOf ys L ns ts → Answered k a ns′ ts′
+    drawn-line k a ns′ ts′ z hn ht e p q = (e ∙ room-to-draw hn ht ∙ rw z, go a (sym e))
+      where
+        go : (a : Answer ℕ) → lineOf ys L ns ts ≡ a → when-given a (λ m. Has l m ns′ ts′)
+        go (refused number place) e = tt
+        go (given m) e = drawn-has m ns′ ts′ e p q
 
-  pub done : (ns : List ℕ) (ts : List ℤ) (out′ : List ℕ) → Has l′ m ns ts → size (length ys) m ≤ length out
-      → out′ ≡ sheet-bytes ys L (take m ns) (take m ts) ++ drop (size (length ys) (length (take m ns))) out → (given (size (length ys) m) ≡ finishOf ys L out) × (out′ ≡ finishedAfter ys L out)
-  unfolding refill
-  done ns ts out′ H h e =
-      let r : finishOf ys L out ≡ given (size (length ys) (length l′)) = rw (le-ltb (length out) (size (length ys) (length l′)) (omega (arith, H .count))) in
-      let same : length (lens l′) ≡ length (totals l′) = length-map l′ _ ∙ sym (length-map l′ _) in
-      (ap (λ (k : ℕ). given (size (length ys) k)) (H .count) ∙ sym r, e ∙ rw (H .lengths, H .totals, r, length-sheet-bytes ys L (lens l′) (totals l′) same))
-
--- ---- with lists that `load` filled
-module _ (s : List ℕ) (f : Fields) (ys : List ℤ) (ys₀ : List ℤ) (e : f ≡ fields s) (ey : ys ≡ samples s ++ drop (minutes s) ys₀) where
-  pub samples-loaded : take (f .minutes) ys ≡ samples s
-  samples-loaded = rw (e, ey) (take-at (samples s) _ (minutes s) (length-records 4 read-sample _ _))
-
-  pub ready-loaded : (ns ns₀ : List ℕ) (ts ts₀ : List ℤ) → 65536 ≤ length ns₀ → 65536 ≤ length ts₀ → in-limits (samples s) (smoothing s) (filed (samples s) (smoothing s) (Format.lengths s) (Format.totals s) fine) ≡ fine
-      → ns ≡ Format.lengths s ++ drop (segment-count s) ns₀ → ts ≡ Format.totals s ++ drop (segment-count s) ts₀ → Ready (take (f .minutes) ys) (f .smoothing) (f .segments) ns ts
-  ready-loaded ns ns₀ ts ts₀ hn ht a en et =
-      let j = judged (samples s) (smoothing s) (Format.lengths s) (Format.totals s) a in
-      let few = j .few in
-      rw (samples-loaded, e, en, et)
-      (ready (samples s) (smoothing s) (segment-count s) (Format.lengths s) (Format.totals s) ns₀ ts₀ j (length-records 12 read-length _ _) (omega arith) (omega arith))
-
-  pub completes : (out out′ : List ℕ) (r : Answer ℕ) → completeOf s out ≡ finishOf (samples s) (smoothing s) out
-      → (r ≡ finishOf (take (f .minutes) ys) (f .smoothing) out) × (out′ ≡ finishedAfter (take (f .minutes) ys) (f .smoothing) out) → (r ≡ completeOf s out) × (out′ ≡ completedAfter s out)
-  completes out out′ r c p =
-      let q : (r ≡ finishOf (samples s) (smoothing s) out) × (out′ ≡ finishedAfter (samples s) (smoothing s) out) = rw (samples-loaded, e) at p in
-      (q .0 ∙ sym c, q .1 ∙ rw c)
+    -- ---- filed
+    pub filed-line : (k : ℕ) → 0 < k → k ≤ length ns → k ≤ length ts → in-limits ys L (filed ys L (take k ns) (take k ts) fine) ≡ fine → Answered k (given k) ns ts
+    filed-line k h hn ht e =
+        let j = judged ys L (take k ns) (take k ts) e in
+        let w = within ys L (j .limited) in
+        let n = length-take-le k ns hn in
+        let o : (take k ns ≡ lens l) × (take k ts ≡ totals l) = ⊎-elim (λ z. absurd (omega (arith, z .0))) (λ z. z) (j .line) in
+        let c : k ≡ length l = sym n ∙ ap length (o .0) ∙ length-map l _ in
+        (sym (passed (lists-alike ys L (take k ns) (take k ts)) e .1 ∙ ap given (sym c)), has k ns ts (w .some) (j .few) c (o .0) (o .1))

@@ -1,60 +1,129 @@
--- What was written is read, what was read is written with the same bytes, and a sheet that has its line is completed to itself (demand 2 of paper 01).
+-- Round trips of the calls (demand 2 of paper 01): what was read is written with the same bytes, what was written is read as it was given, a sheet that has
+-- its line is completed to itself, and completing again changes nothing.
 use mathlib.Core.Path.{_≡_, sym, ap, ap₂, _∙_, subst}
 use mathlib.Core.List.{List}
 use mathlib.Core.Logic.{⊎-elim}
-use Prim.Native.Nat.{ℕ, _<_}
+use Prim.Native.Nat.{ℕ, _<_, _≤_}
 use native.Mathlib.Omega.{arith}
-use lib.ListN.{length, take, drop}
+use borrow.Author.Tests.{le-ltb}
+use lib.ListN.{length, take}
 use lib.Seq.{take-at}
 use lib.IntN.{ℤ}
 use Rattle.codec.specs.PlaceLaws.{Bytes}
 use Rattle.level.specs.Answer.{given}
 use Rattle.denoise.specs.Limits.{in-limits, refill}
-use Rattle.sheet.specs.Format.{minutes, segment-count, line-offset, smoothing, samples, lengths, totals, size, sheet-bytes, read-length}
-use Rattle.sheet.specs.HeadLaws.{InOrder, none-differs}
-use Rattle.sheet.specs.HeadLaws as HeadLaws
+use Rattle.sheet.specs.Format.{minutes, segment-count, smoothing, samples, lengths, totals, size, sheet-bytes, read-sample, read-length}
+use Rattle.sheet.specs.HeadLaws.{none-differs}
 use Rattle.sheet.specs.ListLaws.{length-records}
 use Rattle.sheet.specs.SheetLaws.{sheet-of-read}
-use Rattle.sheet.specs.Read.{filed, accepted}
+use Rattle.sheet.specs.Answer.{fields}
+use Rattle.sheet.specs.Read.{filed, accepted, with-room, readOf, samplesAfter, lengthsAfter, totalsAfter}
 use Rattle.sheet.specs.Write.{room, writeOf, writtenAfter}
-use Rattle.sheet.specs.Complete.{completed, fine}
-use Rattle.sheet.proofs.Chains.{passed, lists-alike}
-use Rattle.sheet.proofs.Judged.{judged}
+use Rattle.sheet.specs.Complete.{completed, finishOf, completeOf, completedAfter, fine}
+use Rattle.sheet.specs.declared.Fields.{Fields}
+use Rattle.sheet.proofs.Chains.{passed, lists-alike, accepted-alike}
 use Rattle.sheet.proofs.SheetOf.{has-room, samples-of, smoothing-of, lengths-of, totals-of, length-of, accepts}
+use Rattle.sheet.proofs.ReadLaws.{in-order, lists-accepted, judgement, passes, found, samples-read, lengths-read, totals-read}
+use Rattle.sheet.proofs.CompleteLaws.{Completed, completes, sized, bytes-count}
 
--- ---- what was written
-pub record Holds (ys : List ℤ) (L : ℕ) (ns : List ℕ) (ts : List ℤ) (o : List ℕ) : Type 0 where
-  pub the-samples : samples o ≡ ys
-  pub the-smoothing : smoothing o ≡ L
-  pub the-lengths : lengths o ≡ ns
-  pub the-totals : totals o ≡ ts
-  pub readable : accepted o fine ≡ fine
-
-pub writes : (ys : List ℤ) (L : ℕ) (ns : List ℕ) (ts : List ℤ) (out : List ℕ) (b : ℕ) → writeOf ys L ns ts out ≡ given b → Holds ys L ns ts (take b (writtenAfter ys L ns ts out))
-unfolding refill
-writes ys L ns ts out b e =
-    let p = passed (lists-alike {y = fine} ys L ns ts) e in
-    let sized : size (length ys) (length ns) ≡ b = has-room out _ b (p .0) .1 in
-    let o : take b (writtenAfter ys L ns ts out) ≡ sheet-bytes ys L ns ts = rw e (take-at (sheet-bytes ys L ns ts) _ b (length-of ys L ns ts (p .1) ∙ sized)) in
-    subst (λ o. Holds ys L ns ts o) (sym o)
-    (record { the-samples = samples-of ys L ns ts (p .1); the-smoothing = smoothing-of ys L ns ts (p .1); the-lengths = lengths-of ys L ns ts (p .1); the-totals = totals-of ys L ns ts (p .1); readable = accepts ys L ns ts (p .1) fine })
-
--- ---- what was read, from bytes
+-- ---- read, then written
 module _ (s : List ℕ) (bytes : Bytes s) (a : accepted s fine ≡ fine) where
-  order : InOrder s × (in-limits (samples s) (smoothing s) (filed (samples s) (smoothing s) (lengths s) (totals s) fine) ≡ fine)
-  order = HeadLaws.passed s _ tt a
+  same-bytes : sheet-bytes (samples s) (smoothing s) (lengths s) (totals s) ≡ s
+  same-bytes = sheet-of-read s bytes (in-order s a .long) (none-differs s (in-order s a .table))
 
-  pub same-bytes : sheet-bytes (samples s) (smoothing s) (lengths s) (totals s) ≡ s
-  same-bytes = sheet-of-read s bytes (order .0 .long) (none-differs s (order .0 .table))
+  writes-back : (out : List ℕ) → length s ≤ length out → writeOf (samples s) (smoothing s) (lengths s) (totals s) out ≡ given (length s)
+  writes-back out h =
+      let n = length-of (samples s) (smoothing s) (lengths s) (totals s) (lists-accepted s a) in
+      passed (lists-alike (samples s) (smoothing s) (lengths s) (totals s)) (lists-accepted s a) .1
+      ∙ ap (room out) (sym n ∙ ap length same-bytes)
+      ∙ rw (le-ltb (length out) (length s) h)
 
-  pub writable : (out : List ℕ) → writeOf (samples s) (smoothing s) (lengths s) (totals s) out ≡ room out (length s)
-  writable out =
-      let n = length-of (samples s) (smoothing s) (lengths s) (totals s) (order .1) in
-      passed (lists-alike (samples s) (smoothing s) (lengths s) (totals s)) (order .1) .1 ∙ ap (room out) (sym n ∙ ap length same-bytes)
+module _ (s : List ℕ) (bytes : Bytes s) (ys : List ℤ) (ns : List ℕ) (ts : List ℤ) (f : Fields) (e : readOf s ys ns ts ≡ given f) where
+  -- the entries that the reader filled
+  abbrev ys′ : List ℤ
+  ys′ = take (f .minutes) (samplesAfter s ys ns ts)
 
-  -- with a line
-  pub unchanged : 0 < segment-count s → completed (samples s) (smoothing s) ≡ s
-  unchanged h =
-      ⊎-elim (λ z. absurd (omega (arith, z .0, length-records 12 read-length (segment-count s) (drop (line-offset (minutes s)) s))))
-      (λ z. sym (ap₂ (sheet-bytes (samples s) (smoothing s)) (z .0) (z .1)) ∙ same-bytes)
-      (judged (samples s) (smoothing s) (lengths s) (totals s) (order .1) .line)
+  abbrev ns′ : List ℕ
+  ns′ = take (f .segments) (lengthsAfter s ys ns ts)
+
+  abbrev ts′ : List ℤ
+  ts′ = take (f .segments) (totalsAfter s ys ns ts)
+
+  pub read-written : (out : List ℕ) → length s ≤ length out →
+      (writeOf ys′ (f .smoothing) ns′ ts′ out ≡ given (length s)) × (writtenAfter ys′ (f .smoothing) ns′ ts′ out ≡ refill s out)
+  read-written out h =
+      let a = passes s ys ns ts f e in
+      let w = writes-back s bytes a out h in
+      rw (samples-read s ys ns ts f e, lengths-read s ys ns ts f e, totals-read s ys ns ts f e, ap (λ f. f .smoothing) (found s ys ns ts f e .header))
+      (w, rw (w, same-bytes s bytes a))
+
+-- ---- written, then read
+module _ (ys : List ℤ) (L : ℕ) (ns : List ℕ) (ts : List ℤ) (out : List ℕ) (b : ℕ) (e : writeOf ys L ns ts out ≡ given b) where
+  abbrev c : List ℕ
+  c = sheet-bytes ys L ns ts
+
+  tests : (room out (size (length ys) (length ns)) ≡ given b) × (in-limits ys L (filed ys L ns ts fine) ≡ fine)
+  tests = passed (lists-alike {y = fine} ys L ns ts) e
+
+  sheet-written : take b (writtenAfter ys L ns ts out) ≡ c
+  unfolding refill
+  sheet-written = rw e (take-at c _ b (length-of ys L ns ts (tests .1) ∙ has-room out _ b (tests .0) .1))
+
+  abbrev fields-given : Fields
+  fields-given = record { minutes = length ys; segments = length ns; smoothing = L }
+
+  fields-of : fields c ≡ fields-given
+  fields-of =
+      let n : minutes c ≡ length ys = sym (length-records 4 read-sample _ _) ∙ ap length (samples-of ys L ns ts (tests .1)) in
+      let m : segment-count c ≡ length ns = sym (length-records 12 read-length _ _) ∙ ap length (lengths-of ys L ns ts (tests .1)) in
+      rw (n, m, smoothing-of ys L ns ts (tests .1))
+
+  module _ (ys₀ : List ℤ) (ns₀ : List ℕ) (ts₀ : List ℤ) (hy : length ys ≤ length ys₀) (hn : length ys ≤ length ns₀) (ht : length ys ≤ length ts₀) where
+    reads-back : readOf c ys₀ ns₀ ts₀ ≡ given fields-given
+    reads-back =
+        accepts ys L ns ts (tests .1) (with-room (fields c) ys₀ ns₀ ts₀)
+        ∙ ap (λ f. with-room f ys₀ ns₀ ts₀) fields-of
+        ∙ rw (le-ltb (length ys₀) (length ys) hy, le-ltb (length ns₀) (length ys) hn, le-ltb (length ts₀) (length ys) ht)
+
+    -- o is read as it was given
+    abbrev ReadBack : List ℕ → Type 0
+    ReadBack o =
+        (readOf o ys₀ ns₀ ts₀ ≡ given fields-given)
+        × ((samplesAfter o ys₀ ns₀ ts₀ ≡ refill ys ys₀) × ((lengthsAfter o ys₀ ns₀ ts₀ ≡ refill ns ns₀) × (totalsAfter o ys₀ ns₀ ts₀ ≡ refill ts ts₀)))
+
+    pub written-read : ReadBack (take b (writtenAfter ys L ns ts out))
+    written-read =
+        subst ReadBack (sym sheet-written)
+        (reads-back, (rw (reads-back, samples-of ys L ns ts (tests .1)), (rw (reads-back, lengths-of ys L ns ts (tests .1)), rw (reads-back, totals-of ys L ns ts (tests .1)))))
+
+-- ---- completed
+module _ (s out : List ℕ) (b : ℕ) (e : completeOf s out ≡ given b) where
+  -- a sheet with a line comes out as it was
+  module _ (bytes : Bytes s) (some : 0 < segment-count s) where
+    a : accepted s fine ≡ fine
+    a = passed (accepted-alike {y = fine} s) e .1
+
+    unchanged : completed (samples s) (smoothing s) ≡ s
+    unchanged =
+        let M : length (lengths s) ≡ segment-count s = length-records 12 read-length _ _ in
+        ⊎-elim (λ z. absurd (omega arith)) (λ z. sym (ap₂ (sheet-bytes (samples s) (smoothing s)) (z .0) (z .1)) ∙ same-bytes s bytes a) (judgement s a .line)
+
+    pub completed-same : (b ≡ length s) × (completedAfter s out ≡ refill s out)
+    completed-same = (sym (bytes-count s out b e) ∙ ap length unchanged, rw (e, unchanged))
+
+  -- what was completed is completed to itself
+  pub completed-twice : (out₂ : List ℕ) → b ≤ length out₂ → let o = take b (completedAfter s out) in (completeOf o out₂ ≡ given b) × (completedAfter o out₂ ≡ refill o out₂)
+  completed-twice out₂ h = (again, rw (again, c₂ .completed-again))
+    where
+      o : List ℕ
+      o = take b (completedAfter s out)
+
+      c₂ : Completed s o
+      c₂ = completes s out b e
+
+      again : completeOf o out₂ ≡ given b
+      again =
+          passed (accepted-alike {y = finishOf (samples o) (smoothing o) out₂} o) (c₂ .accepted-again) .1
+          ∙ ap₂ (λ ys L. finishOf ys L out₂) (c₂ .same-samples) (c₂ .same-smoothing)
+          ∙ ap (room out₂) (sized s out b e .1)
+          ∙ rw (le-ltb (length out₂) b h)

@@ -19,9 +19,9 @@ use Rattle.optimality.specs.Plain as Plain
 use Rattle.optimality.specs.Machine.{plain-line}
 use Rattle.optimality.specs.Theorems as Theorems
 use Rattle.level.specs.Answer.{Answer, given}
-use Rattle.denoise.specs.Limits.{in-limits}
+use Rattle.denoise.specs.Limits.{in-limits, Limited}
 use Rattle.denoise.proofs.Refusals.{if-past, never}
-use Rattle.denoise.proofs.CheckLaws.{Limited, limits-past}
+use Rattle.denoise.proofs.CheckLaws.{limits-past}
 use Rattle.sheet.specs.Format.{smoothing, samples, lengths, totals, size, sheet-bytes}
 use Rattle.sheet.specs.ListLaws.{Naturals, Integers}
 use Rattle.sheet.specs.SheetLaws.{length-sheet-bytes, smoothing-of-written, samples-of-written, lengths-of-written, totals-of-written, well-headed-of-written}

@@ -33,16 +33,9 @@ module _ (s out : List ℕ) where
   abbrev pub completedAfter : List ℕ
   completedAfter = on-success completeOf (refill (completed (samples s) (smoothing s)) out) out
 
--- ---- what lists hold on the way
+-- ---- on the way
 abbrev pub fine : Answer (Unit {0})
 fine = given tt
-
--- before the line is asked for: a series within the limits, room, and where m segments were filed the line already
-pub record Ready (ys : List ℤ) (L m : ℕ) (ns : List ℕ) (ts : List ℤ) : Type 0 where
-  pub limited : in-limits ys L fine ≡ fine
-  pub lengths-room : length ys ≤ length ns
-  pub totals-room : length ys ≤ length ts
-  pub own : 0 < m → (m ≡ length (plain-line (pos L) ys)) × ((take m ns ≡ lens (plain-line (pos L) ys)) × (take m ts ≡ Plain.totals (plain-line (pos L) ys)))
 
 -- the first m entries are the line l
 pub record Has (l : List Segment) (m : ℕ) (ns : List ℕ) (ts : List ℤ) : Type 0 where

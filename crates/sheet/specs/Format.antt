@@ -3,6 +3,8 @@ use mathlib.Core.List.{List, [], _∷_, _++_}
 use Prim.Native.Nat.{ℕ, zero, suc, _+_, _*_}
 use lib.ListN.{length, take, drop}
 use lib.IntN.{ℤ}
+use Rattle.optimality.specs.Segments.{Segment}
+use Rattle.optimality.specs.Plain.{segments}
 use Rattle.codec.specs.LittleEndian.{decode, encode, signed, unsigned, getUnsigned}
 
 -- ---- what a sheet holds
@@ -46,6 +48,10 @@ lengths s = records 12 read-length (segment-count s) (drop (line-offset (minutes
 
 abbrev pub totals : List ℕ → List ℤ
 totals s = records 12 read-total (segment-count s) (drop (line-offset (minutes s)) s)
+
+-- its line, as segments
+abbrev pub filed-line : List ℕ → List Segment
+filed-line s = segments (lengths s) (totals s)
 
 -- ---- the bytes of a sheet
 unfoldable pub header : (n m smoothing : ℕ) → List ℕ

@@ -8,7 +8,7 @@ use lib.IntN.{ℤ}
 use Rattle.level.specs.Answer.{Answer, given, refuse-if}
 use Rattle.denoise.specs.Limits.{in-limits, refill, on-success}
 use Rattle.denoise.specs.Check.{meets-conditions}
-use Rattle.sheet.specs.Format.{minutes, smoothing, samples, lengths, totals}
+use Rattle.sheet.specs.Format.{smoothing, samples, lengths, totals}
 use Rattle.sheet.specs.Head.{well-headed}
 use Rattle.sheet.specs.Answer.{fields}
 use Rattle.sheet.specs.declared.Fields.{Fields}
@@ -25,10 +25,13 @@ filed ys smoothing ns ts rest = unless (eqb (length ns) 0 && eqb (length ts) 0) 
 abbrev pub accepted : {A : Type 0} → List ℕ → Answer A → Answer A
 accepted s rest = well-headed s (in-limits (samples s) (smoothing s) (filed (samples s) (smoothing s) (lengths s) (totals s) rest))
 
+-- 5 for any of the three lists, used or not
+abbrev pub with-room : Fields → List ℤ → List ℕ → List ℤ → Answer Fields
+with-room f ys ns ts = refuse-if (ltb (length ys) (f .minutes) || (ltb (length ns) (f .minutes) || ltb (length ts) (f .minutes))) 5 0 (given f)
+
 module _ (s : List ℕ) (ys : List ℤ) (ns : List ℕ) (ts : List ℤ) where
-  -- 5 for any of the three lists, used or not
   abbrev pub readOf : Answer Fields
-  readOf = accepted s (refuse-if (ltb (length ys) (minutes s) || (ltb (length ns) (minutes s) || ltb (length ts) (minutes s))) 5 0 (given (fields s)))
+  readOf = accepted s (with-room (fields s) ys ns ts)
 
   -- what the lists then hold
   abbrev pub samplesAfter : List ℤ

@@ -1,15 +1,13 @@
 // Sheets: the archive's format, 32 bytes of header, then the samples, then the segments of the line (paper 01, "The sheet").
 ghost use mathlib.Core.Path.{_≡_};
-ghost use mathlib.Core.List.{_++_};
-ghost use Prim.Native.Nat.{_≤_};
-ghost use lib.ListN.{length, drop};
-ghost use Rattle.level.specs.Answer.{given};
-ghost use Rattle.denoise.specs.Limits.{in-limits};
-ghost use Rattle.denoise.specs.Check.{checked};
-ghost use Rattle.sheet.specs.Answer.{fields, headed};
-ghost use Rattle.sheet.specs.Format.{smoothing, samples, lengths, totals, size, sheet-bytes};
-ghost use Rattle.sheet.specs.HeadLaws.{InOrder};
-ghost use Rattle.sheet.specs.Read.{filed, readOf, samplesAfter, lengthsAfter, totalsAfter};
+ghost use Prim.Native.Nat.{_<_};
+ghost use lib.ListN.{take};
+ghost use Rattle.optimality.specs.Plain.{segments};
+ghost use Rattle.level.specs.Answer.{when-given};
+ghost use Rattle.denoise.specs.Optimality.{Meets, Only, Least};
+ghost use Rattle.sheet.specs.Answer.{headed};
+ghost use Rattle.sheet.specs.Format.{smoothing, samples, lengths, totals, filed-line};
+ghost use Rattle.sheet.specs.Read.{readOf, samplesAfter, lengthsAfter, totalsAfter};
 ghost use Rattle.sheet.specs.Write.{written, writeOf, writtenAfter};
 ghost use Rattle.sheet.specs.Complete.{completeOf, completedAfter};
 
@@ -18,6 +16,8 @@ mod header;
 mod lists;
 mod loading;
 mod numbers;
+mod reader;
+mod writer;
 
 use denoise::Checked;
 
@@ -42,28 +42,15 @@ pub enum Written {
 
 // Fills the lists with a sheet's samples and the lengths and totals of its line; later entries stay.
 pub fn read(sheet: &[u8], samples: &mut [i32], lengths: &mut [u32], totals: &mut [i64]) -> Reading
-    ensures { λ r. ⌜ headed r ≡ readOf (now (sheet .entry)) (now (samples .entry)) (now (lengths .entry)) (now (totals .entry)) ⌝ }
-    ensures { λ r. ⌜ now (samples .exit) ≡ samplesAfter (now (sheet .entry)) (now (samples .entry)) (now (lengths .entry)) (now (totals .entry)) ⌝ }
-    ensures { λ r. ⌜ now (lengths .exit) ≡ lengthsAfter (now (sheet .entry)) (now (samples .entry)) (now (lengths .entry)) (now (totals .entry)) ⌝ }
-    ensures { λ r. ⌜ now (totals .exit) ≡ totalsAfter (now (sheet .entry)) (now (samples .entry)) (now (lengths .entry)) (now (totals .entry)) ⌝ }
+    ensures answer { λ r. ⌜ headed r ≡ readOf (now (sheet .entry)) (now (samples .entry)) (now (lengths .entry)) (now (totals .entry)) ⌝ }
+    ensures samples { λ r. ⌜ now (samples .exit) ≡ samplesAfter (now (sheet .entry)) (now (samples .entry)) (now (lengths .entry)) (now (totals .entry)) ⌝ }
+    ensures lengths { λ r. ⌜ now (lengths .exit) ≡ lengthsAfter (now (sheet .entry)) (now (samples .entry)) (now (lengths .entry)) (now (totals .entry)) ⌝ }
+    ensures totals { λ r. ⌜ now (totals .exit) ≡ totalsAfter (now (sheet .entry)) (now (samples .entry)) (now (lengths .entry)) (now (totals .entry)) ⌝ }
+    ensures meets { λ r. ⌜ when-given (headed r) (λ f. 0 < f .segments → Meets (take (f .minutes) (now (samples .exit))) (f .smoothing) (segments (take (f .segments) (now (lengths .exit))) (take (f .segments) (now (totals .exit))))) ⌝ }
 {
-    match loading::accept(sheet) {
+    match header::read_header(sheet) {
         Reading::Refused(number, place) => Reading::Refused(number, place),
-        Reading::Valid(f) => {
-            let n = f.minutes as usize;
-            if samples.len() < n {
-                return Reading::Refused(5, 0);
-            }
-            if lengths.len() < n {
-                return Reading::Refused(5, 0);
-            }
-            if totals.len() < n {
-                return Reading::Refused(5, 0);
-            }
-            lists::read_samples(sheet, n, samples);
-            lists::read_segments(sheet, 32 + 4 * n, f.segments as usize, lengths, totals);
-            Reading::Valid(f)
-        }
+        Reading::Valid(f) => reader::read_fields(sheet, f, samples, lengths, totals),
     }
 }
 
@@ -75,45 +62,26 @@ pub fn write(
     totals: &[i64],
     out: &mut [u8],
 ) -> Written
-    ensures { λ r. ⌜ written r ≡ writeOf (now (samples .entry)) smoothing (now (lengths .entry)) (now (totals .entry)) (now (out .entry)) ⌝ }
-    ensures { λ r. ⌜ now (out .exit) ≡ writtenAfter (now (samples .entry)) smoothing (now (lengths .entry)) (now (totals .entry)) (now (out .entry)) ⌝ }
+    ensures answer { λ r. ⌜ written r ≡ writeOf (now (samples .entry)) smoothing (now (lengths .entry)) (now (totals .entry)) (now (out .entry)) ⌝ }
+    ensures out { λ r. ⌜ now (out .exit) ≡ writtenAfter (now (samples .entry)) smoothing (now (lengths .entry)) (now (totals .entry)) (now (out .entry)) ⌝ }
 {
     match loading::judge(samples, smoothing, lengths, totals) {
         Checked::Refused(number, place) => Written::Refused(number, place),
-        Checked::Passed => {
-            let bytes = 32 + 4 * samples.len() + 12 * lengths.len();
-            if out.len() < bytes {
-                return Written::Refused(5, 0);
-            }
-            put_sheet(samples, smoothing, lengths, totals, out);
-            Written::Bytes(bytes)
-        }
+        Checked::Passed => writer::put_sheet(samples, smoothing, lengths, totals, out),
     }
 }
 
 // Writes the same sheet with its line; one that has its line comes out unchanged. Later bytes stay.
 pub fn complete(sheet: &[u8], out: &mut [u8]) -> Written
-    ensures { λ r. ⌜ written r ≡ completeOf (now (sheet .entry)) (now (out .entry)) ⌝ }
-    ensures { λ r. ⌜ now (out .exit) ≡ completedAfter (now (sheet .entry)) (now (out .entry)) ⌝ }
+    ensures answer { λ r. ⌜ written r ≡ completeOf (now (sheet .entry)) (now (out .entry)) ⌝ }
+    ensures out { λ r. ⌜ now (out .exit) ≡ completedAfter (now (sheet .entry)) (now (out .entry)) ⌝ }
+    ensures same { λ r. ⌜ when-given (written r) (λ b. (samples (take b (now (out .exit))) ≡ samples (now (sheet .entry))) × (smoothing (take b (now (out .exit))) ≡ smoothing (now (sheet .entry)))) ⌝ }
+    ensures meets { λ r. ⌜ when-given (written r) (λ b. Meets (samples (now (sheet .entry))) (smoothing (now (sheet .entry))) (filed-line (take b (now (out .exit))))) ⌝ }
+    ensures only { λ r. ⌜ when-given (written r) (λ b. Only (samples (now (sheet .entry))) (smoothing (now (sheet .entry))) (lengths (take b (now (out .exit)))) (totals (take b (now (out .exit))))) ⌝ }
+    ensures least { λ r. ⌜ when-given (written r) (λ b. Least (samples (now (sheet .entry))) (smoothing (now (sheet .entry))) (filed-line (take b (now (out .exit))))) ⌝ }
 {
     match header::read_header(sheet) {
         Reading::Refused(number, place) => Written::Refused(number, place),
         Reading::Valid(f) => completing::complete_fields(sheet, f, out),
     }
-}
-
-// The sheet that holds these lists, at the start of `out`; the bytes past it stay.
-fn put_sheet(samples: &[i32], smoothing: u64, lengths: &[u32], totals: &[i64], out: &mut [u8])
-    requires { ⌜ length (now samples) ≤ 65536 ⌝ }
-    requires { ⌜ length (now lengths) ≤ 65536 ⌝ }
-    requires { ⌜ length (now lengths) ≡ length (now totals) ⌝ }
-    requires { ⌜ size (length (now samples)) (length (now lengths)) ≤ length (now out) ⌝ }
-    ensures { λ _. ⌜ now (out .exit) ≡ sheet-bytes (now (samples .entry)) smoothing (now (lengths .entry)) (now (totals .entry))
-        ++ drop (size (length (now (samples .entry))) (length (now (lengths .entry)))) (now (out .entry)) ⌝ }
-{
-    let n = samples.len();
-    let m = lengths.len();
-    header::write_header(out, n as u32, m as u32, smoothing);
-    lists::write_samples(samples, out, 32);
-    lists::write_segments(lengths, totals, out, 32 + 4 * n);
 }

@@ -1,4 +1,4 @@
-// A sheet's lists, loaded from its bytes and checked before anything is lent or written.
+// A sheet's lists, decoded from its bytes and judged.
 ghost use mathlib.Core.Path.{_≡_};
 ghost use mathlib.Core.List.{_++_};
 ghost use Prim.Native.Nat.{_≤_};
@@ -11,8 +11,6 @@ ghost use Rattle.sheet.specs.Format.{minutes, segment-count, smoothing, 
 ghost use Rattle.sheet.specs.HeadLaws.{InOrder};
 ghost use Rattle.sheet.specs.Read.{filed, accepted};
 use super::Fields;
-use super::Reading;
-use super::header;
 use super::lists;
 use denoise::Checked;
 
@@ -28,54 +26,19 @@ pub(crate) fn judge(samples: &[i32], smoothing: u64, lengths: &[u32], totals: &[
     denoise::check(samples, smoothing, lengths, totals)
 }
 
-// The lists of a sheet with a header in order, in the first entries of three lists, and whether they are accepted.
-pub(crate) fn load(
-    sheet: &[u8],
-    f: Fields,
-    ys: &mut [i32],
-    ns: &mut [u32],
-    ts: &mut [i64],
-) -> Checked
+// The lists of a sheet with a header in order, in the first entries of three lists.
+pub(crate) fn decode(sheet: &[u8], f: Fields, ys: &mut [i32], ns: &mut [u32], ts: &mut [i64])
     requires { ⌜ InOrder (now sheet) ⌝ }
     requires { ⌜ f ≡ fields (now sheet) ⌝ }
-    requires { ⌜ 65536 ≤ length (now ys) ⌝ }
-    requires { ⌜ 65536 ≤ length (now ns) ⌝ }
-    requires { ⌜ 65536 ≤ length (now ts) ⌝ }
-    ensures { λ r. ⌜ checked r ≡ in-limits (samples (now (sheet .entry))) (smoothing (now (sheet .entry)))
-        (filed (samples (now (sheet .entry))) (smoothing (now (sheet .entry))) (lengths (now (sheet .entry))) (totals (now (sheet .entry))) (given tt)) ⌝ }
-    ensures { λ r. ⌜ now (ys .exit) ≡ samples (now (sheet .entry)) ++ drop (minutes (now (sheet .entry))) (now (ys .entry)) ⌝ }
-    ensures { λ r. ⌜ now (ns .exit) ≡ lengths (now (sheet .entry)) ++ drop (segment-count (now (sheet .entry))) (now (ns .entry)) ⌝ }
-    ensures { λ r. ⌜ now (ts .exit) ≡ totals (now (sheet .entry)) ++ drop (segment-count (now (sheet .entry))) (now (ts .entry)) ⌝ }
+    requires { ⌜ f .minutes ≤ length (now ys) ⌝ }
+    requires { ⌜ f .minutes ≤ length (now ns) ⌝ }
+    requires { ⌜ f .minutes ≤ length (now ts) ⌝ }
+    ensures { λ _. ⌜ now (ys .exit) ≡ samples (now (sheet .entry)) ++ drop (minutes (now (sheet .entry))) (now (ys .entry)) ⌝ }
+    ensures { λ _. ⌜ now (ns .exit) ≡ lengths (now (sheet .entry)) ++ drop (segment-count (now (sheet .entry))) (now (ns .entry)) ⌝ }
+    ensures { λ _. ⌜ now (ts .exit) ≡ totals (now (sheet .entry)) ++ drop (segment-count (now (sheet .entry))) (now (ts .entry)) ⌝ }
 {
     let n = f.minutes as usize;
     let m = f.segments as usize;
     lists::read_samples(sheet, n, ys);
     lists::read_segments(sheet, 32 + 4 * n, m, ns, ts);
-    judge(&ys[..n], f.smoothing, &ns[..m], &ts[..m])
-}
-
-// All but 5.
-pub(crate) fn accept(sheet: &[u8]) -> Reading
-    ensures { λ r. ⌜ headed r ≡ accepted (now (sheet .entry)) (given (fields (now (sheet .entry)))) ⌝ }
-{
-    match header::read_header(sheet) {
-        Reading::Refused(number, place) => Reading::Refused(number, place),
-        Reading::Valid(f) => match accept_lists(sheet, f) {
-            Checked::Refused(number, place) => Reading::Refused(number, place),
-            Checked::Passed => Reading::Valid(f),
-        },
-    }
-}
-
-// The lists are judged in memory of their own, since a refusal leaves what is lent as it was.
-fn accept_lists(sheet: &[u8], f: Fields) -> Checked
-    requires { ⌜ InOrder (now sheet) ⌝ }
-    requires { ⌜ f ≡ fields (now sheet) ⌝ }
-    ensures { λ r. ⌜ checked r ≡ in-limits (samples (now (sheet .entry))) (smoothing (now (sheet .entry)))
-        (filed (samples (now (sheet .entry))) (smoothing (now (sheet .entry))) (lengths (now (sheet .entry))) (totals (now (sheet .entry))) (given tt)) ⌝ }
-{
-    let mut ys = [0i32; 65536];
-    let mut ns = [0u32; 65536];
-    let mut ts = [0i64; 65536];
-    load(sheet, f, &mut ys, &mut ns, &mut ts)
 }

@@ -43,7 +43,7 @@ finish-requires c κs =
     let e = r v .read .ensures .1 in
     let k = length-take-le (f .minutes) (l .1 .0) (samples-part (c .before .before .before)) in
     let m = room-read (a .sheet .now) (a .samples .now) (a .lengths .now) (a .totals .now) f (gives v) in (
-      ready-read (a .sheet .now) (a .samples .now) (a .lengths .now) (a .totals .now) f (gives v) (l .1 .0) (e .0) (l .1 .1 .0) (l .1 .1 .1 .0) (e .1 .0) (e .1 .1),
+      ready-read (a .sheet .now) (a .samples .now) (a .lengths .now) (a .totals .now) f (gives v) (l .1 .0) (e .0) (l .1 .1 .0) (l .1 .1 .1 .0) (e .1 .0) (e .1 .1 .0),
       (omega (arith, k, m, s v .pre .1), s v .pre .0),
     )
 

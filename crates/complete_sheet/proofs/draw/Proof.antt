@@ -1,40 +1,37 @@
--- `complete_sheet::draw` meets its contract.
+-- `complete_sheet::draw` meets its contract: the line that was filed, or the one that is drawn.
 use borrow.Author.Needs.{needs}
-use mathlib.Core.Path.{_≡_, sym, ap, _∙_}
-use lib.ListN.{length}
-use lib.IntN.{pos}
-use Rattle.optimality.specs.Machine.{plain-line}
-use Rattle.level.specs.Answer.{given}
+use mathlib.Core.Path.{sym, ap, _∙_}
 use Rattle.denoise.specs.Line.{drawn}
+use Rattle.denoise.proofs.Admitted.{within, passed}
 use Rattle.denoise.proofs.Refusals.{never}
-use Rattle.sheet.proofs.OwnLine.{draws, drawn-line, filed-line}
+use Rattle.sheet.proofs.OwnLine.{has, drawn-has, room-to-draw}
 use Rattle.complete_sheet.proofs.draw.Statement.{statement}
 use Rattle.complete_sheet.proofs.draw.Tie as tie
 
 returns : tie.Need-returns
 returns c =
-    let s = c .before .before .before .before in
-    filed-line (s .args .samples .now) (s .args .f .smoothing) (s .args .f .segments) (s .args .lengths .now) (s .args .totals .now) (s .pre) (c .before .if1 .taken)
-
--- what `denoise::line` answers
-answer : (c : tie.After-line) → let s = c .before .before .before .before .before .before in
-    drawn (c .line .result) ≡ given (length (plain-line (pos (s .args .f .smoothing)) (s .args .samples .now)))
-answer c =
-    let s = c .before .before .before .before .before .before in
-    c .line .ensures .0 ∙ draws (s .args .samples .now) (s .args .f .smoothing) (s .args .f .segments) (s .args .lengths .now) (s .args .totals .now) (s .pre)
+    let g = c .before .before .before .before in
+    let w = within (g .args .samples .now) (g .args .f .smoothing) (g .pre .limited) in
+    let o = g .pre .own (c .before .if1 .taken) in
+    has (g .args .samples .now) (g .args .f .smoothing) (g .args .f .segments) (g .args .lengths .now) (g .args .totals .now) (w .some) (w .limited .minutes) (o .0) (o .1 .0) (o .1 .1)
 
 returns-2 : tie.Need-returns-2
 returns-2 c =
     let l = c .before .before .before .before .before .before in
-    let s = l .before .before .before .before .before .before in
-    let d = sym (ap drawn (c .before .m .given .1)) ∙ answer l in
-    drawn-line (s .args .samples .now) (s .args .f .smoothing) (s .args .f .segments) (s .args .lengths .now) (s .args .totals .now) (s .pre)
-    (c .before .m .given .0 .0) (l .line .last .1 .1 .0) (l .line .last .1 .1 .1 .0) (cc) (l .line .ensures .1 .0) (l .line .ensures .1 .1)
+    let g = l .before .before .before .before .before .before .args in
+    drawn-has (g .samples .now) (g .f .smoothing) (g .lengths .now) (g .totals .now) (c .before .m .given .0 .0) (l .line .last .1 .1 .0) (l .line .last .1 .1 .1 .0)
+    (sym (l .line .ensures .0) ∙ ap drawn (c .before .m .given .1)) (l .line .ensures .1 .0) (l .line .ensures .1 .1 .0)
 
+-- within the limits, and with room, nothing is refused
 returns-3 : tie.Need-returns-3
 returns-3 c =
     let l = c .before .before .before .before .before .before in
-    never (sym (ap drawn (c .before .number .given .1)) ∙ answer l)
+    let g = l .before .before .before .before .before .before in
+    never
+    (sym (ap drawn (c .before .number .given .1))
+    ∙ l .line .ensures .0
+    ∙ room-to-draw (g .args .samples .now) (g .args .f .smoothing) (g .args .lengths .now) (g .args .totals .now) (g .pre .lengths-room) (g .pre .totals-room)
+    ∙ passed (g .args .samples .now) (g .args .f .smoothing) _ (g .pre .limited))
 
 pub draw-spec : {M : Type 1} → statement M
 draw-spec =

@@ -15,7 +15,7 @@ use Rattle.console.proofs.series_check.Tie as tie
 -- what the callee promised
 promised : (g : tie.After-check) → let a = g .before .before .args in
     checked (g .check .result) ≡ checkOf (a .samples .now) (a .smoothing) (a .lengths .now) (a .totals .now)
-promised g = g .check .ensures
+promised g = g .check .ensures .0
 
 returns : tie.Need-returns
 returns c =

@@ -23,7 +23,7 @@ module _ (g : tie.After-line) where
 
   lists : (g .line .last .1 .1 .0 ≡ lengthsOf (a .args .samples .now) (a .args .smoothing) (a .args .lengths .now) (a .args .totals .now))
       × (g .line .last .1 .1 .1 .0 ≡ totalsOf (a .args .samples .now) (a .args .smoothing) (a .args .lengths .now) (a .args .totals .now))
-  lists = (g .line .ensures .1 .0, g .line .ensures .1 .1)
+  lists = (g .line .ensures .1 .0, g .line .ensures .1 .1 .0)
 
   near : {number place : ℕ} → drawn (g .line .result) ≡ refused number place → place ≤ 65536
   near e = place-most (line-placed (a .args .samples .now) (a .args .smoothing) (a .args .lengths .now) (a .args .totals .now)) (sym promised ∙ e)

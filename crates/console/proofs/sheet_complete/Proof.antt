@@ -25,7 +25,7 @@ module _ (g : tie.After-complete) where
   promised = g .complete .ensures .0
 
   bytes : g .complete .last .1 .0 ≡ completedAfter (a .args .sheet .now) (a .args .out .now)
-  bytes = g .complete .ensures .1
+  bytes = g .complete .ensures .1 .0
 
   few : {b : ℕ} → written (g .complete .result) ≡ given b → b ≤ 1048608
   few {b} e = bytes-few (a .args .sheet .now) (a .args .out .now) b (sym promised ∙ e)

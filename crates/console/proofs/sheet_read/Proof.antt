@@ -91,7 +91,7 @@ module _ (g : tie.After-read) where
   lengths-are = g .read .ensures .1 .1 .0 ∙ as-read _ _
 
   totals-are : g .read .last .1 .1 .1 .0 ≡ totalsRead (s a) (ys a) (ns a) (ts a) (fs a)
-  totals-are = g .read .ensures .1 .1 .1 ∙ as-read _ _
+  totals-are = g .read .ensures .1 .1 .1 .0 ∙ as-read _ _
 
 refusal-requires : tie.Need-refusal-requires
 refusal-requires c = let n = c .before in omega (arith, near (n .before .before .before .before .before .before) (ap headed (n .number .given .1)))

@@ -8,6 +8,7 @@ use Rattle.denoise.specs.Outline.{paired}
 use Rattle.denoise.specs.Walk.{concludeOf}
 use Rattle.denoise.proofs.Shaped.{pair}
 use Rattle.denoise.proofs.Concluded.{unpaired-is, walk-is}
+use Rattle.denoise.proofs.CheckLaws.{promised}
 use Rattle.denoise.proofs.check.Statement.{statement}
 use Rattle.denoise.proofs.check.Tie as tie
 
@@ -24,9 +25,10 @@ returns : tie.Need-returns
 returns c =
     let t = c .before .before in
     let g = t .before .before .before .args in
-    c .conclude .ensures
+    promised (g .samples .now) (g .smoothing) (g .lengths .now) (g .totals .now) _
+    (c .conclude .ensures
     ∙ ap (concludeOf (g .samples .now) (g .smoothing) false) (c .before .start .ensures)
-    ∙ unpaired-is (g .samples .now) (g .smoothing) (g .lengths .now) (g .totals .now) (sym (t .before .paired .ensures) ∙ not-true _ (t .if1 .taken))
+    ∙ unpaired-is (g .samples .now) (g .smoothing) (g .lengths .now) (g .totals .now) (sym (t .before .paired .ensures) ∙ not-true _ (t .if1 .taken)))
 
 two : (c : tie.Else1) → let g = c .before .before .before .args in paired (length (g .lengths .now)) (length (g .totals .now)) ≡ true
 two c = sym (c .before .paired .ensures) ∙ not-false _ (c .if1 .left)
@@ -41,9 +43,10 @@ returns-2 : tie.Need-returns-2
 returns-2 c =
     let e = c .before .before in
     let g = e .before .before .before .args in
-    c .conclude2 .ensures
+    promised (g .samples .now) (g .smoothing) (g .lengths .now) (g .totals .now) _
+    (c .conclude2 .ensures
     ∙ ap (concludeOf (g .samples .now) (g .smoothing) true) (c .before .whole .ensures)
-    ∙ walk-is (g .samples .now) (g .smoothing) (g .lengths .now) (g .totals .now) (two e)
+    ∙ walk-is (g .samples .now) (g .smoothing) (g .lengths .now) (g .totals .now) (two e))
 
 pub check-spec : {M : Type 1} → statement M
 check-spec =

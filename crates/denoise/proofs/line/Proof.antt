@@ -11,6 +11,7 @@ use Rattle.denoise.specs.Limits.{in-limits}
 use Rattle.denoise.specs.Line.{lineOf}
 use Rattle.denoise.specs.Check.{checked}
 use Rattle.denoise.proofs.Admitted.{within, passed, stopped}
+use Rattle.denoise.proofs.LineLaws.{promised}
 use Rattle.denoise.proofs.line.Statement.{statement}
 use Rattle.denoise.proofs.line.Tie as tie
 
@@ -30,7 +31,7 @@ returns c =
     let l = w .before .before in
     let s = l .before .before in
     let e : answer s ≡ refused (w .number .given .0 .0) (w .number .given .0 .1 .0) = stopped (s .args .samples .now) (s .args .smoothing) _ (sym (l .limits .ensures) ∙ ap checked (w .number .given .1)) in
-    (rw e, (rw e, rw e))
+    promised (s .args .samples .now) (s .args .smoothing) (s .args .lengths .now) (s .args .totals .now) _ _ _ (rw e, (rw e, rw e))
 
 -- ---- no refusal so far
 enum-told : tie.Need-enum-told
@@ -45,7 +46,7 @@ returns-2 c =
     let w = c .before in
     let s = w .before .before .before .before in
     let e : answer s ≡ refused 5 0 = passed (s .args .samples .now) (s .args .smoothing) _ (fine w) ∙ rw (lt-ltb (length (s .args .lengths .now)) (length (s .args .samples .now)) (c .if1 .taken)) in
-    (rw e, (rw e, rw e))
+    promised (s .args .samples .now) (s .args .smoothing) (s .args .lengths .now) (s .args .totals .now) _ _ _ (rw e, (rw e, rw e))
 
 returns-3 : tie.Need-returns-3
 returns-3 c =
@@ -53,7 +54,7 @@ returns-3 c =
     let s = w .before .before .before .before in
     let n = length (s .args .samples .now) in
     let e : answer s ≡ refused 5 0 = passed (s .args .samples .now) (s .args .smoothing) _ (fine w) ∙ rw (le-ltb (length (s .args .lengths .now)) n (c .before .if1 .left), lt-ltb (length (s .args .totals .now)) n (c .if2 .taken)) in
-    (rw e, (rw e, rw e))
+    promised (s .args .samples .now) (s .args .smoothing) (s .args .lengths .now) (s .args .totals .now) _ _ _ (rw e, (rw e, rw e))
 
 draw-requires : tie.Need-draw-requires
 draw-requires c κs = let w = c .before .before .before .before in (within _ _ (fine w), (c .before .before .before .if1 .left, c .before .before .if2 .left))
@@ -73,7 +74,7 @@ returns-4 c =
     let n = length (s .args .samples .now) in
     let e : answer s ≡ given (length (plain-line (pos (s .args .smoothing)) (s .args .samples .now))) =
     passed (s .args .samples .now) (s .args .smoothing) _ (fine w) ∙ rw (le-ltb (length (s .args .lengths .now)) n (f .before .if1 .left), le-ltb (length (s .args .totals .now)) n (f .if2 .left)) in
-    (ap given (d .draw .ensures .0) ∙ sym e, (d .draw .ensures .1 .0 ∙ rw e, d .draw .ensures .1 .1 ∙ rw e))
+    promised (s .args .samples .now) (s .args .smoothing) (s .args .lengths .now) (s .args .totals .now) _ _ _ (ap given (d .draw .ensures .0) ∙ sym e, (d .draw .ensures .1 .0 ∙ rw e, d .draw .ensures .1 .1 ∙ rw e))
 
 pub line-spec : {M : Type 1} → statement M
 line-spec = tie.close (tie.spec limits-requires enum-known-number returns enum-told returns-2 returns-3 draw-requires same-length same-length-2 returns-4)

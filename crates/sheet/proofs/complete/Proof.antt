@@ -5,6 +5,7 @@ use Rattle.level.specs.Answer.{given}
 use Rattle.sheet.specs.Answer.{headed, fields}
 use Rattle.sheet.specs.HeadLaws as HeadLaws
 use Rattle.sheet.proofs.Chains.{same-given, pass, stopped, head-alike}
+use Rattle.sheet.proofs.CompleteLaws.{promised}
 use Rattle.sheet.proofs.complete.Statement.{statement}
 use Rattle.sheet.proofs.complete.Tie as tie
 
@@ -21,9 +22,15 @@ returns : tie.Need-returns
 returns c =
     let n = c .before in
     let h = n .before .before in
-    let s = h .before .before .before .args .sheet .now in
-    let r = stopped (head-alike pass s) (sym (h .read-header .ensures) ∙ ap headed (n .number .given .1)) in
-    (sym r, rw r)
+    let g = h .before .before .before .args in
+    let r = stopped (head-alike pass (g .sheet .now)) (sym (h .read-header .ensures) ∙ ap headed (n .number .given .1)) in
+    promised (g .sheet .now) (g .out .now) _ _ (sym r, rw r)
+
+returns-2 : tie.Need-returns-2
+returns-2 c =
+    let d = c .before .before in
+    let g = d .before .before .before .before .before .before .before .before .args in
+    promised (g .sheet .now) (g .out .now) _ _ (d .complete-fields .ensures)
 
 pub complete-spec : {M : Type 1} → statement M
 complete-spec =
@@ -35,4 +42,4 @@ complete-spec =
     complete-fields-requires
     returns
     (λ c. search needs)
-    (λ c. search needs))
+    returns-2)

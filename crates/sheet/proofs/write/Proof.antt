@@ -33,8 +33,8 @@ says : (j : tie.After-judge) → checked (j .judge .result) ≡ judgement (j .be
 says j = j .judge .ensures
 
 -- ---- 1, 2, 4, 3 or 6 to 9
-returns-2 : tie.Need-returns-2
-returns-2 c =
+returns : tie.Need-returns
+returns c =
     let n = c .before in
     let j = n .before .before in
     let s = j .before .before .before in
@@ -50,24 +50,15 @@ told c =
     let e : judgement s ≡ given tt = sym (says j) ∙ ap checked (c .enum-told .given .1) in
     (judged _ _ _ _ e, passed (same-tests s) e .1)
 
--- ---- 5
-returns : tie.Need-returns
-returns c =
-    let e : answer (c .before .before .before .before .before .before) ≡ refused 5 0 = told (c .before) .1 ∙ rw (lt-ltb _ _ (c .if1 .taken)) in
-    (sym e, rw e)
-
 put-sheet-requires : tie.Need-put-sheet-requires
-put-sheet-requires c κs = omega (arith, told (c .before .before) .0)
+put-sheet-requires c κs = let j = told (c .before) .0 in omega (arith, j)
 
-returns-3 : tie.Need-returns-3
-unfolding refill
-returns-3 c =
+returns-2 : tie.Need-returns-2
+returns-2 c =
     let p = c .before .before in
-    let l = p .before .before in
-    let t = told (l .before) in
-    let s = l .before .before .before .before .before .before in
-    let e : answer s ≡ given (bytes s) = t .1 ∙ rw (le-ltb _ _ (l .if1 .left)) in
-    (sym e, rw (e, length-sheet-bytes (s .args .samples .now) (s .args .smoothing) (s .args .lengths .now) (s .args .totals .now) (t .0 .same)) (p .put-sheet .ensures))
+    let t = told (p .before .before) in
+    let e = sym (t .1) in
+    (p .put-sheet .ensures .0 ∙ e, p .put-sheet .ensures .1 ∙ rw (p .put-sheet .ensures .0 ∙ e))
 
 pub write-spec : {M : Type 1} → statement M
 write-spec =
@@ -76,12 +67,7 @@ write-spec =
     (λ c κs. search needs)
     (λ c. search needs)
     (λ c. search needs)
-    (λ c. search needs)
-    (λ c. search needs)
-    (λ c. omega (arith, told c .0))
-    (λ c. omega (arith, told c .0))
-    returns
     put-sheet-requires
-    returns-2
+    returns
     (λ c. search needs)
-    returns-3)
+    returns-2)

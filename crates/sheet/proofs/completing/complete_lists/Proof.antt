@@ -1,56 +1,107 @@
--- `sheet::completing::complete_lists` meets its contract: what `load` leaves is ready for the line.
-use mathlib.Core.Path.{sym, ap, _∙_}
-use borrow.Author.Needs.{needs}
+-- `sheet::completing::complete_lists` meets its contract: the line of the sheet's own lists, and 5 or the sheet with it.
+use mathlib.Core.Path.{_≡_, sym, ap, _∙_, subst}
+use mathlib.Core.List.{List}
 use native.Mathlib.Omega.{arith}
+use Prim.Native.Nat.{ℕ, _≤_}
+use borrow.Author.Needs.{needs}
+use lib.IntN.{ℤ, pos}
+use lib.ListN.{length, take, length-map}
 use lib.Seq.{length-take-le}
-use Rattle.level.specs.Answer.{given}
-use Rattle.denoise.specs.Check.{checked}
-use Rattle.sheet.specs.Format.{smoothing, samples, lengths, totals}
-use Rattle.sheet.specs.HeadLaws as HeadLaws
-use Rattle.sheet.proofs.Chains.{stopped, passed, lists-alike}
-use Rattle.sheet.proofs.OwnLine.{ready-loaded, completes}
+use Rattle.optimality.specs.Segments.{Segment}
+use Rattle.optimality.specs.Machine.{plain-line}
+use Rattle.level.specs.Answer.{Answer, given, when-given}
+use Rattle.denoise.specs.Limits.{in-limits}
+use Rattle.denoise.specs.Line.{drawn}
+use Rattle.sheet.specs.Read.{filed}
+use Rattle.sheet.specs.Complete.{Has}
+use Rattle.sheet.proofs.LoadLaws.{samples-loaded, lengths-loaded, totals-loaded, line-refused, completes}
 use Rattle.sheet.proofs.completing.complete_lists.Statement.{statement}
 use Rattle.sheet.proofs.completing.complete_lists.Tie as tie
 
-abbrev start : tie.After-load → tie.Start
-start l = l .before .before .before .before .before .before .before
+abbrev start : tie.After-decode → tie.Start
+start d = d .before .before .before .before .before .before .before
 
-abbrev loaded : tie.After-enum-told → tie.After-load
-loaded c = c .before .before .before .before .before .before
+samples-length : tie.Need-slice-aggregate-line
+samples-length c = sym (length-take-le _ _ (omega (arith, start (c .before .before .before .before .before .before) .pre .1 .1)))
 
-samples-part : tie.Need-slice-reshare-prefix-finish
-samples-part c = let s = start (loaded (c .before)) in rw (s .pre .1 .0) (omega (arith, s .pre .0 .few, s .pre .1 .1 .0))
+line-requires : tie.Need-line-requires
+line-requires c κs =
+    let g = start (c .before .before .before .before .before .before .before .before) in
+    let n = samples-length (c .before .before) in
+    let m : g .args .f .segments ≤ g .args .f .minutes = rw (g .pre .1 .0) (g .pre .0 .fewer) in
+    omega (arith, n, m, g .pre .1 .1)
 
-finish-requires : tie.Need-finish-requires
-finish-requires c κs =
-    let t = c .before .before .before .before .before in
-    let l = loaded t in
-    let g = start l in
-    let e = l .load .ensures in
-    ready-loaded (g .args .sheet .now) (g .args .f) _ _ (g .pre .1 .0) (e .1 .0) _ _ _ _ (g .pre .1 .1 .1 .0) (g .pre .1 .1 .1 .1)
-    (sym (e .0) ∙ ap checked (t .enum-told .given .1)) (e .1 .1 .0) (e .1 .1 .1)
+-- ---- the line's answer, told of the sheet's lists
+module _ (l : tie.After-line) where
+  abbrev decoded : tie.After-decode
+  decoded = l .before .before .before .before .before .before .before .before .before
 
--- 4, 3 or 6 to 9
+  abbrev g : tie.Start
+  g = start decoded
+
+  abbrev ys : List ℤ
+  ys = take (g .args .f .minutes) (decoded .decode .last .1 .1 .0)
+
+  abbrev line : List Segment
+  line = plain-line (pos (g .args .f .smoothing)) ys
+
+-- ---- a line, and its number of segments
+module _ (c : tie.After-m) where
+  abbrev l : tie.After-line
+  l = c .before .before .before .before .before
+
+  has : Has (line l) (c .m .given .0 .0) (l .line .last .1 .1 .0) (l .line .last .1 .1 .1 .0)
+  has = subst (λ r. when-given (drawn r) (λ m. Has (line l) m (l .line .last .1 .1 .0) (l .line .last .1 .1 .1 .0))) (c .m .given .1) (l .line .ensures .1)
+
+samples-length-2 : tie.Need-slice-aggregate-put-sheet
+samples-length-2 c = sym (length-take-le _ _ (omega (arith, g (c .before .before .before .before .before .before .before) .pre .1 .1)))
+
+lengths-part : tie.Need-slice-reshare-prefix-put-sheet-2
+lengths-part c = has (c .before .before) .lengths-room
+
+totals-part : tie.Need-slice-reshare-prefix-put-sheet-3
+totals-part c = has (c .before .before .before) .totals-room
+
+put-sheet-requires : tie.Need-put-sheet-requires
+put-sheet-requires c κs =
+    let b = c .before .before in
+    let a = b .before in
+    let d = a .before .before .before .before .before .before .before in
+    let h = g d in
+    let m = a .before .before .m .given .0 .0 in
+    let n = length-take-le m (d .line .last .1 .1 .0) (lengths-part a) in
+    let t = length-take-le m (d .line .last .1 .1 .1 .0) (totals-part b) in
+    let few : h .args .f .minutes ≤ 65536 = rw (h .pre .1 .0) (h .pre .0 .few) in
+    (omega (arith, samples-length-2 a, few), (omega (arith, n, has (a .before .before) .few), n ∙ sym t))
+
+-- 1, 2, 4, 3 or 6 to 9
 returns : tie.Need-returns
 returns c =
     let n = c .before in
-    let l = n .before .before .before .before .before .before in
-    let st = start l in
-    let s = st .args .sheet .now in
-    let e = stopped (lists-alike (samples s) (smoothing s) (lengths s) (totals s)) (sym (l .load .ensures .0) ∙ ap checked (n .number .given .1)) in
-    let r = HeadLaws.passes s _ (st .pre .0) ∙ e in
+    let l = n .before .before .before .before .before in
+    let d = decoded l in
+    let g = start d in
+    let s = g .args .sheet .now in
+    let f = g .args .f in
+    let e = g .pre .1 .0 in
+    let h = d .decode .ensures in
+    let r = line-refused s f e (g .pre .0) _ _ _ (samples-loaded s f e _ _ (h .0)) (lengths-loaded s f e _ _ (h .1 .0)) (totals-loaded s f e _ _ (h .1 .1)) (g .args .out .now)
+    (sym (l .line .ensures .0) ∙ ap drawn (n .number .given .1)) in
     (sym r, rw r)
 
 returns-2 : tie.Need-returns-2
 returns-2 c =
-    let d = c .before .before .before .before .before in
-    let t = d .before .before .before .before .before .before in
-    let l = loaded t in
-    let g = start l in
+    let p = c .before .before in
+    let m = p .before .before .before .before .before .before in
+    let l = m .before .before .before .before .before in
+    let d = decoded l in
+    let g = start d in
     let s = g .args .sheet .now in
-    let e = l .load .ensures in
-    let p = passed (lists-alike (samples s) (smoothing s) (lengths s) (totals s)) (sym (e .0) ∙ ap checked (t .enum-told .given .1)) in
-    completes s (g .args .f) _ _ (g .pre .1 .0) (e .1 .0) (g .args .out .now) _ _ (HeadLaws.passes s _ (g .pre .0) ∙ p .1) (d .finish .ensures)
+    let f = g .args .f in
+    let e = g .pre .1 .0 in
+    let h = d .decode .ensures in
+    completes s f e (g .pre .0) _ _ _ (samples-loaded s f e _ _ (h .0)) (lengths-loaded s f e _ _ (h .1 .0)) (totals-loaded s f e _ _ (h .1 .1)) (g .args .out .now)
+    _ (sym (l .line .ensures .0) ∙ ap drawn (m .m .given .1)) _ _ _ _ (has m) (p .put-sheet .ensures)
 
 pub complete-lists-spec : {M : Type 1} → statement M
 complete-lists-spec =
@@ -59,10 +110,18 @@ complete-lists-spec =
     (λ c κs. search needs)
     (λ c. search needs)
     (λ c. search needs)
+    samples-length
+    line-requires
     (λ c. search needs)
-    samples-part
-    (λ c. sym (length-take-le _ _ (samples-part (c .before))))
-    finish-requires
+    (λ c. search needs)
+    (λ c. search needs)
+    (λ c. search needs)
+    samples-length-2
+    lengths-part
+    (λ c. sym (length-take-le _ _ (lengths-part (c .before))))
+    totals-part
+    (λ c. sym (length-take-le _ _ (totals-part (c .before))))
+    put-sheet-requires
     (λ c. search needs)
     (λ c. search needs)
     (λ c. search needs)

@@ -13,7 +13,7 @@ use Rattle.sheet.proofs.lists.read_samples.Statement.{statement}
 use Rattle.sheet.proofs.lists.read_samples.Tie as tie
 
 abbrev Inv-loop : tie.InvT-loop
-Inv-loop sheet n out₀ i₀ out i = (i ≤ n) × Filled 4 read-sample sheet 32 out₀ i out
+Inv-loop sheet n out₀ i₀ out i = (i ≤ n) × Filled out₀ 4 read-sample sheet 32 i out
 
 abbrev μ-loop : tie.MeasureT-loop
 μ-loop sheet n out₀ i₀ out i = n - i
@@ -28,7 +28,7 @@ loop-again c =
     let loop = c .before .before .loop in
     let args = c .before .before .before .before .args in
     let read = toZ-ofZ {w = w32} (sfits-of (c .get-i32 .ok)) ∙ c .get-i32 .ensures in
-    (omega arith, filled-more 4 read-sample (args .sheet .now) 32 (args .out .now) (loop .i) (loop .out) _ (omega arith) read (loop .inv .1))
+    (omega arith, filled-more (args .out .now) 4 read-sample (args .sheet .now) 32 (loop .i) (loop .out) _ (omega arith) read (loop .inv .1))
 
 returns : tie.Need-returns Inv-loop μ-loop
 returns c =

@@ -13,7 +13,7 @@ use Rattle.sheet.proofs.lists.read_segments.Tie as tie
 
 abbrev Inv-loop : tie.InvT-loop
 Inv-loop sheet at m lengths₀ totals₀ i₀ lengths totals i =
-    (i ≤ m) × Filled 12 read-length sheet at lengths₀ i lengths × Filled 12 read-total sheet at totals₀ i totals
+    (i ≤ m) × Filled lengths₀ 12 read-length sheet at i lengths × Filled totals₀ 12 read-total sheet at i totals
 
 abbrev μ-loop : tie.MeasureT-loop
 μ-loop sheet at m lengths₀ totals₀ i₀ lengths totals i = m - i
@@ -30,8 +30,8 @@ loop-again c =
     let length = c .before .get-u32 .ensures ∙ length-at s (args .at + 12 * loop .i) in
     let total = toZ-ofZ {w = w64} (sfits-of (c .get-i64 .ok)) ∙ c .get-i64 .ensures ∙ total-at s (args .at + 12 * loop .i) in (
       omega arith,
-      filled-more 12 read-length s (args .at) (args .lengths .now) (loop .i) (loop .lengths) _ (omega arith) length (loop .inv .1),
-      filled-more 12 read-total s (args .at) (args .totals .now) (loop .i) (loop .totals) _ (omega arith) total (loop .inv .2),
+      filled-more (args .lengths .now) 12 read-length s (args .at) (loop .i) (loop .lengths) _ (omega arith) length (loop .inv .1),
+      filled-more (args .totals .now) 12 read-total s (args .at) (loop .i) (loop .totals) _ (omega arith) total (loop .inv .2),
     )
 
 returns : tie.Need-returns Inv-loop μ-loop

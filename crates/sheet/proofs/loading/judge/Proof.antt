@@ -18,7 +18,7 @@ returns-2 c =
     let g = j .before .before .args in
     let line : (eqb (length (g .lengths .now)) 0 && eqb (length (g .totals .now)) 0) ≡ false =
     ⊎-elim (λ w. rw (eq-eqb _ 0 (w .0 .taken), ne-eqb _ 0 (w .1 .left))) (λ w. rw (ne-eqb _ 0 (w .left))) (j .if1 .came) in
-    rw line (c .check .ensures)
+    rw line (c .check .ensures .0)
 
 pub judge-spec : {M : Type 1} → statement M
 judge-spec = tie.close (tie.spec (λ c κs. search needs) returns (λ c κs. search needs) returns-2)

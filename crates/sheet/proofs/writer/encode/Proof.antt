@@ -1,4 +1,4 @@
--- `sheet::put_sheet` meets its contract: header, samples and segments side by side from byte 0 on.
+-- `sheet::writer::encode` meets its contract: header, samples and segments side by side from byte 0 on.
 use Prim.Native.Nat.{_*_}
 use native.Mathlib.Omega.{arith}
 use borrow.Author.Needs.{needs}
@@ -7,8 +7,8 @@ use Rattle.sheet.specs.Format.{header, sample-bytes, segment-bytes, shee
 use Rattle.sheet.specs.ListLaws.{length-sample-bytes, length-segment-bytes}
 use Rattle.sheet.specs.SheetLaws.{length-header}
 use Rattle.sheet.proofs.Writes.{nothing, part, whole}
-use Rattle.sheet.proofs.put_sheet.Statement.{statement}
-use Rattle.sheet.proofs.put_sheet.Tie as tie
+use Rattle.sheet.proofs.writer.encode.Statement.{statement}
+use Rattle.sheet.proofs.writer.encode.Tie as tie
 
 returns : tie.Need-returns
 unfolding sheet-bytes
@@ -27,8 +27,8 @@ returns c =
     let b3 = part s (12 * length ns) (segment-bytes ns ts) (length-segment-bytes ns ts (start .pre .1 .1 .0)) (omega arith) b2 (c3 .write-segments .ensures) in
     whole s b3
 
-pub put-sheet-spec : {M : Type 1} → statement M
-put-sheet-spec =
+pub encode-spec : {M : Type 1} → statement M
+encode-spec =
     tie.close
     (tie.spec
     (λ c. search needs)

@@ -1,0 +1,23 @@
+-- `sheet::reader::read_small` meets its contract: `read_lists` is lent arrays of 1,024 entries.
+use borrow.Author.Needs.{needs}
+use Rattle.sheet.proofs.reader.read_small.Statement.{statement}
+use Rattle.sheet.proofs.reader.read_small.Tie as tie
+
+read-lists-requires : tie.Need-read-lists-requires
+read-lists-requires c κs =
+    let pre = c .before .before .before .before .before .before .before .before .pre in
+    let n = pre .1 .1 in
+    (pre .0, (pre .1 .0, (n, (n, n))))
+
+pub read-small-spec : {M : Type 1} → statement M
+read-small-spec =
+    tie.close
+    (tie.spec
+    (λ c. search needs)
+    (λ c. search needs)
+    (λ c. search needs)
+    read-lists-requires
+    (λ c. search needs)
+    (λ c. search needs)
+    (λ c. search needs)
+    (λ c. search needs))

@@ -1,0 +1,159 @@
+// Reading: the lists are judged in memory of the call's own, since a refusal leaves what is lent as it was, and copied where they are accepted.
+ghost use mathlib.Core.Path.{_≡_};
+ghost use Prim.Native.Nat.{_≤_};
+ghost use lib.ListN.{length};
+ghost use Rattle.denoise.specs.Limits.{in-limits, refill, on-success};
+ghost use Rattle.sheet.specs.Answer.{fields, headed};
+ghost use Rattle.sheet.specs.HeadLaws.{InOrder};
+ghost use Rattle.sheet.specs.Read.{filed, with-room, readOf, samplesAfter, lengthsAfter, totalsAfter};
+use super::Fields;
+use super::Reading;
+use super::lists;
+use super::loading;
+use denoise::Checked;
+
+// With a header in order: a small sheet in little memory.
+pub(crate) fn read_fields(
+    sheet: &[u8],
+    f: Fields,
+    samples: &mut [i32],
+    lengths: &mut [u32],
+    totals: &mut [i64],
+) -> Reading
+    requires { ⌜ InOrder (now sheet) ⌝ }
+    requires { ⌜ f ≡ fields (now sheet) ⌝ }
+    ensures { λ r. ⌜ headed r ≡ readOf (now (sheet .entry)) (now (samples .entry)) (now (lengths .entry)) (now (totals .entry)) ⌝ }
+    ensures { λ r. ⌜ now (samples .exit) ≡ samplesAfter (now (sheet .entry)) (now (samples .entry)) (now (lengths .entry)) (now (totals .entry)) ⌝ }
+    ensures { λ r. ⌜ now (lengths .exit) ≡ lengthsAfter (now (sheet .entry)) (now (samples .entry)) (now (lengths .entry)) (now (totals .entry)) ⌝ }
+    ensures { λ r. ⌜ now (totals .exit) ≡ totalsAfter (now (sheet .entry)) (now (samples .entry)) (now (lengths .entry)) (now (totals .entry)) ⌝ }
+{
+    if f.minutes <= 1024 {
+        return read_small(sheet, f, samples, lengths, totals);
+    }
+    read_large(sheet, f, samples, lengths, totals)
+}
+
+fn read_small(
+    sheet: &[u8],
+    f: Fields,
+    samples: &mut [i32],
+    lengths: &mut [u32],
+    totals: &mut [i64],
+) -> Reading
+    requires { ⌜ InOrder (now sheet) ⌝ }
+    requires { ⌜ f ≡ fields (now sheet) ⌝ }
+    requires { ⌜ f .minutes ≤ 1024 ⌝ }
+    ensures { λ r. ⌜ headed r ≡ readOf (now (sheet .entry)) (now (samples .entry)) (now (lengths .entry)) (now (totals .entry)) ⌝ }
+    ensures { λ r. ⌜ now (samples .exit) ≡ samplesAfter (now (sheet .entry)) (now (samples .entry)) (now (lengths .entry)) (now (totals .entry)) ⌝ }
+    ensures { λ r. ⌜ now (lengths .exit) ≡ lengthsAfter (now (sheet .entry)) (now (samples .entry)) (now (lengths .entry)) (now (totals .entry)) ⌝ }
+    ensures { λ r. ⌜ now (totals .exit) ≡ totalsAfter (now (sheet .entry)) (now (samples .entry)) (now (lengths .entry)) (now (totals .entry)) ⌝ }
+{
+    let mut ys = [0i32; 1024];
+    let mut ns = [0u32; 1024];
+    let mut ts = [0i64; 1024];
+    read_lists(
+        sheet,
+        f,
+        samples,
+        lengths,
+        totals,
+        &mut ys,
+        &mut ns,
+        &mut ts,
+    )
+}
+
+fn read_large(
+    sheet: &[u8],
+    f: Fields,
+    samples: &mut [i32],
+    lengths: &mut [u32],
+    totals: &mut [i64],
+) -> Reading
+    requires { ⌜ InOrder (now sheet) ⌝ }
+    requires { ⌜ f ≡ fields (now sheet) ⌝ }
+    ensures { λ r. ⌜ headed r ≡ readOf (now (sheet .entry)) (now (samples .entry)) (now (lengths .entry)) (now (totals .entry)) ⌝ }
+    ensures { λ r. ⌜ now (samples .exit) ≡ samplesAfter (now (sheet .entry)) (now (samples .entry)) (now (lengths .entry)) (now (totals .entry)) ⌝ }
+    ensures { λ r. ⌜ now (lengths .exit) ≡ lengthsAfter (now (sheet .entry)) (now (samples .entry)) (now (lengths .entry)) (now (totals .entry)) ⌝ }
+    ensures { λ r. ⌜ now (totals .exit) ≡ totalsAfter (now (sheet .entry)) (now (samples .entry)) (now (lengths .entry)) (now (totals .entry)) ⌝ }
+{
+    let mut ys = [0i32; 65536];
+    let mut ns = [0u32; 65536];
+    let mut ts = [0i64; 65536];
+    read_lists(
+        sheet,
+        f,
+        samples,
+        lengths,
+        totals,
+        &mut ys,
+        &mut ns,
+        &mut ts,
+    )
+}
+
+// With lists to work in.
+fn read_lists(
+    sheet: &[u8],
+    f: Fields,
+    samples: &mut [i32],
+    lengths: &mut [u32],
+    totals: &mut [i64],
+    ys: &mut [i32],
+    ns: &mut [u32],
+    ts: &mut [i64],
+) -> Reading
+    requires { ⌜ InOrder (now sheet) ⌝ }
+    requires { ⌜ f ≡ fields (now sheet) ⌝ }
+    requires { ⌜ f .minutes ≤ length (now ys) ⌝ }
+    requires { ⌜ f .minutes ≤ length (now ns) ⌝ }
+    requires { ⌜ f .minutes ≤ length (now ts) ⌝ }
+    ensures { λ r. ⌜ headed r ≡ readOf (now (sheet .entry)) (now (samples .entry)) (now (lengths .entry)) (now (totals .entry)) ⌝ }
+    ensures { λ r. ⌜ now (samples .exit) ≡ samplesAfter (now (sheet .entry)) (now (samples .entry)) (now (lengths .entry)) (now (totals .entry)) ⌝ }
+    ensures { λ r. ⌜ now (lengths .exit) ≡ lengthsAfter (now (sheet .entry)) (now (samples .entry)) (now (lengths .entry)) (now (totals .entry)) ⌝ }
+    ensures { λ r. ⌜ now (totals .exit) ≡ totalsAfter (now (sheet .entry)) (now (samples .entry)) (now (lengths .entry)) (now (totals .entry)) ⌝ }
+{
+    loading::decode(sheet, f, ys, ns, ts);
+    let n = f.minutes as usize;
+    let m = f.segments as usize;
+    fill(f, &ys[..n], &ns[..m], &ts[..m], samples, lengths, totals)
+}
+
+// With the sheet's lists: their refusals, then 5, or copies of them.
+fn fill(
+    f: Fields,
+    ys: &[i32],
+    ns: &[u32],
+    ts: &[i64],
+    samples: &mut [i32],
+    lengths: &mut [u32],
+    totals: &mut [i64],
+) -> Reading
+    requires { ⌜ length (now ys) ≡ f .minutes ⌝ }
+    requires { ⌜ length (now ns) ≡ length (now ts) ⌝ }
+    requires { ⌜ length (now ns) ≤ f .minutes ⌝ }
+    ensures { λ r. ⌜ headed r ≡ in-limits (now (ys .entry)) (f .smoothing) (filed (now (ys .entry)) (f .smoothing) (now (ns .entry)) (now (ts .entry))
+        (with-room f (now (samples .entry)) (now (lengths .entry)) (now (totals .entry)))) ⌝ }
+    ensures { λ r. ⌜ now (samples .exit) ≡ on-success (headed r) (refill (now (ys .entry)) (now (samples .entry))) (now (samples .entry)) ⌝ }
+    ensures { λ r. ⌜ now (lengths .exit) ≡ on-success (headed r) (refill (now (ns .entry)) (now (lengths .entry))) (now (lengths .entry)) ⌝ }
+    ensures { λ r. ⌜ now (totals .exit) ≡ on-success (headed r) (refill (now (ts .entry)) (now (totals .entry))) (now (totals .entry)) ⌝ }
+{
+    match loading::judge(ys, f.smoothing, ns, ts) {
+        Checked::Refused(number, place) => {
+            return Reading::Refused(number, place);
+        }
+        Checked::Passed => {}
+    }
+    if samples.len() < ys.len() {
+        return Reading::Refused(5, 0);
+    }
+    if lengths.len() < ys.len() {
+        return Reading::Refused(5, 0);
+    }
+    if totals.len() < ys.len() {
+        return Reading::Refused(5, 0);
+    }
+    lists::copy_samples(ys, samples);
+    lists::copy_segments(ns, ts, lengths, totals);
+    Reading::Valid(f)
+}
