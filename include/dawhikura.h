@@ -6,7 +6,8 @@
  * the sheet's lists, the others under 16 KiB. Drawing a line takes some 8 ns a minute (README, "Speed"), but is quadratic on some series: a ramp of
  * 65,536 minutes took up to six seconds. Checking, reading and writing are linear.
  *
- * A result below 0 is a refusal: minus (256 times the place, plus the number), so that for r < 0 the number is -r % 256 and the place -r / 256.
+ * A result below 0 is a refusal: minus (256 times the place, plus the number), so that for r < 0 the number is -r % 256 and the place -r / 256. A place is
+ * at most 65,536, or at most the count of segments handed over; in a list of more than 2^54 segments a place above 2^54 is told as 2^54.
  *
  *   1  no minutes                             5  a list has fewer entries than the call needs, or the output is too short
  *   2  more than 65,536 minutes               6  a line's shape: no segment or lists of unequal length; a length of 0, place its segment;
@@ -39,6 +40,12 @@ int64_t series_balances(const int32_t *samples, size_t minutes, uint64_t smoothi
 
 /* Whether a line that somebody else drew is the line of the series: 0, or the first refusal of 1, 2, 4, 3, 6, 7, 8, 9. */
 int64_t series_check(const int32_t *samples, size_t minutes, uint64_t smoothing, const uint32_t *lengths, size_t lengths_len, const int64_t *totals, size_t totals_len);
+
+/* A segment of a line, as a record. */
+typedef struct { uint32_t length; int64_t total; } dawhikura_segment;
+
+/* The same check, over a run of records. */
+int64_t series_check_segments(const int32_t *samples, size_t minutes, uint64_t smoothing, const dawhikura_segment *segments, size_t segments_len);
 
 /* The chart of a line of so many minutes: the first minute, the last minute and the plotted level of each segment, in the first entries of the three
  * lists; the result is the number of segments. The lists need as many entries as the line has segments. A plotted level is the nearest double to total

@@ -4,3 +4,4 @@ pub mod Found
 pub mod Passed
 pub mod Listed
 pub mod Laws
+pub mod PlaceLaws

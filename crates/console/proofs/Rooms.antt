@@ -38,7 +38,8 @@ abbrev Same : {A B : Type 0} → Bool → A → B → Answer A → Answer B → 
 Same t u v a b = Alike (refuse-if t 5 0 (given u)) (refuse-if t 5 0 (given v)) a b
 
 module _ {A B : Type 0} (u : A) where
-  stopped-five : {a : Answer A} {b : Answer B} {number place : ℕ} (t : Bool) → Alike (refuse-if t 5 0 (given u)) (refused 5 0) a b → a ≡ refused number place → b ≡ refused number place
+  stopped-five : {a : Answer A} {b : Answer B} {number place : ℕ} (t : Bool)
+      → Alike (refuse-if t 5 0 (given u)) (refused 5 0) a b → a ≡ refused number place → b ≡ refused number place
   stopped-five t (stop number place) e = cc
   stopped-five true pass e = cc
   stopped-five false pass e = never (sym e)

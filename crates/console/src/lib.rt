@@ -2,37 +2,57 @@
 
 ghost use mathlib.Core.Path.{_≡_};
 ghost use mathlib.Core.List.{[], _∷_};
-ghost use Prim.Native.Nat.{_≤_};
+ghost use Prim.Native.Nat.{_≤_, min};
 ghost use lib.IntN.{pos};
 ghost use lib.ListN.{length};
 ghost use Rattle.denoise.specs.Line.{lineOf, lengthsOf, totalsOf};
 ghost use Rattle.denoise.specs.Dual.{balancesOf, balancesAfter};
-ghost use Rattle.denoise.specs.Check.{checkOf};
+ghost use Rattle.denoise.specs.Check.{checked, checkOf};
 ghost use Rattle.denoise.specs.Limits.{refill, on-success};
+ghost use Rattle.denoise.specs.Records.{lengths-of, totals-of};
 ghost use Rattle.level.specs.Answer.{refused};
 ghost use Rattle.chart.specs.Chart.{markOf};
 ghost use Rattle.chart.specs.Whole.{segmentsOf, firstsOf, lastsOf, levelsOf};
 ghost use Rattle.sheet.specs.Read.{accepted};
 ghost use Rattle.sheet.specs.Write.{writeOf, writtenAfter};
 ghost use Rattle.sheet.specs.Complete.{completeOf, completedAfter};
-ghost use Rattle.console.specs.Code.{refusal, code, code-of-none, code-of-all};
+ghost use Rattle.console.specs.Code.{refusal, code, code-of-none, code-of-all, farthest, told};
 ghost use Rattle.console.specs.Mark.{room, kindOf, levelsAfter};
 ghost use Rattle.console.specs.Reading.{three, readingOf, samplesRead, lengthsRead, totalsRead, fieldsRead};
 use chart::Mark;
 use denoise::Checked;
 use denoise::Drawn;
 use denoise::Filled;
+use denoise::Segment;
 use sheet::Fields;
 use sheet::Reading;
 use sheet::Written;
 
 // Minus (256 times the place, plus the number).
 fn refusal(number: u32, place: usize) -> i64
+    requires { ⌜ place ≤ farthest ⌝ }
     ensures { λ r. ⌜ r ≡ refusal number place ⌝ }
+{
+    -((256 * place + number as usize) as i64)
+}
+
+// The same for every place: 2^54 for one that is larger.
+fn far_refusal(number: u32, place: usize) -> i64
+    ensures { λ r. ⌜ r ≡ refusal number (min place farthest) ⌝ }
 {
     let most = 18_014_398_509_481_984;
     let told = if place < most { place } else { most };
-    -((256 * told + number as usize) as i64)
+    refusal(number, told)
+}
+
+// The result of a check: 0 where it passed.
+fn verdict(c: Checked) -> i64
+    ensures { λ r. ⌜ r ≡ code-of-none (told (checked c)) ⌝ }
+{
+    match c {
+        Checked::Passed => 0,
+        Checked::Refused(number, place) => far_refusal(number, place),
+    }
 }
 
 #[no_mangle]
@@ -42,9 +62,9 @@ pub extern "C" fn series_line(
     lengths: &mut [u32],
     totals: &mut [i64],
 ) -> i64
-    ensures { λ r. ⌜ r ≡ code (lineOf (now (samples .entry)) smoothing (now (lengths .entry)) (now (totals .entry))) ⌝ }
-    ensures { λ r. ⌜ now (lengths .exit) ≡ lengthsOf (now (samples .entry)) smoothing (now (lengths .entry)) (now (totals .entry)) ⌝ }
-    ensures { λ r. ⌜ now (totals .exit) ≡ totalsOf (now (samples .entry)) smoothing (now (lengths .entry)) (now (totals .entry)) ⌝ }
+    ensures answer { λ r. ⌜ r ≡ code (lineOf (now (samples .entry)) smoothing (now (lengths .entry)) (now (totals .entry))) ⌝ }
+    ensures lengths { λ r. ⌜ now (lengths .exit) ≡ lengthsOf (now (samples .entry)) smoothing (now (lengths .entry)) (now (totals .entry)) ⌝ }
+    ensures totals { λ r. ⌜ now (totals .exit) ≡ totalsOf (now (samples .entry)) smoothing (now (lengths .entry)) (now (totals .entry)) ⌝ }
 {
     match denoise::line(samples, smoothing, lengths, totals) {
         Drawn::Segments(m) => m as i64,
@@ -54,8 +74,8 @@ pub extern "C" fn series_line(
 
 #[no_mangle]
 pub extern "C" fn series_balances(samples: &[i32], smoothing: u64, out: &mut [i64]) -> i64
-    ensures { λ r. ⌜ r ≡ code-of-all (length (now (samples .entry))) (balancesOf (now (samples .entry)) smoothing (now (out .entry))) ⌝ }
-    ensures { λ r. ⌜ now (out .exit) ≡ balancesAfter (now (samples .entry)) smoothing (now (out .entry)) ⌝ }
+    ensures answer { λ r. ⌜ r ≡ code-of-all (length (now (samples .entry))) (balancesOf (now (samples .entry)) smoothing (now (out .entry))) ⌝ }
+    ensures out { λ r. ⌜ now (out .exit) ≡ balancesAfter (now (samples .entry)) smoothing (now (out .entry)) ⌝ }
 {
     match denoise::balances(samples, smoothing, out) {
         Filled::Done => samples.len() as i64,
@@ -70,12 +90,25 @@ pub extern "C" fn series_check(
     lengths: &[u32],
     totals: &[i64],
 ) -> i64
-    ensures { λ r. ⌜ r ≡ code-of-none (checkOf (now (samples .entry)) smoothing (now (lengths .entry)) (now (totals .entry))) ⌝ }
+    ensures answer { λ r. ⌜ r ≡ code-of-none (told (checkOf (now (samples .entry)) smoothing (now (lengths .entry)) (now (totals .entry)))) ⌝ }
+    ensures plain { λ r. ⌜ (length (now (lengths .entry)) ≤ farthest →
+        r ≡ code-of-none (checkOf (now (samples .entry)) smoothing (now (lengths .entry)) (now (totals .entry)))) ⌝ }
 {
-    match denoise::check(samples, smoothing, lengths, totals) {
-        Checked::Passed => 0,
-        Checked::Refused(number, place) => refusal(number, place),
-    }
+    verdict(denoise::check(samples, smoothing, lengths, totals))
+}
+
+#[no_mangle]
+pub extern "C" fn series_check_segments(
+    samples: &[i32],
+    smoothing: u64,
+    segments: &[Segment],
+) -> i64
+    ensures answer { λ r. ⌜ r ≡
+        code-of-none (told (checkOf (now (samples .entry)) smoothing (lengths-of (now (segments .entry))) (totals-of (now (segments .entry))))) ⌝ }
+    ensures plain { λ r. ⌜ (length (now (segments .entry)) ≤ farthest →
+        r ≡ code-of-none (checkOf (now (samples .entry)) smoothing (lengths-of (now (segments .entry))) (totals-of (now (segments .entry))))) ⌝ }
+{
+    verdict(denoise::check_segments(samples, smoothing, segments))
 }
 
 #[no_mangle]
@@ -87,14 +120,20 @@ pub extern "C" fn chart_segments(
     lasts: &mut [u32],
     levels: &mut [f64],
 ) -> i64
-    ensures { λ r. ⌜ r ≡ code-of-all (length (now (lengths .entry))) (segmentsOf minutes (now (lengths .entry)) (now (totals .entry)) (now (firsts .entry)) (now (lasts .entry)) (now (levels .entry))) ⌝ }
-    ensures { λ r. ⌜ now (firsts .exit) ≡ firstsOf minutes (now (lengths .entry)) (now (totals .entry)) (now (firsts .entry)) (now (lasts .entry)) (now (levels .entry)) ⌝ }
-    ensures { λ r. ⌜ now (lasts .exit) ≡ lastsOf minutes (now (lengths .entry)) (now (totals .entry)) (now (firsts .entry)) (now (lasts .entry)) (now (levels .entry)) ⌝ }
-    ensures { λ r. ⌜ now (levels .exit) ≡ levelsOf minutes (now (lengths .entry)) (now (totals .entry)) (now (firsts .entry)) (now (lasts .entry)) (now (levels .entry)) ⌝ }
+    ensures answer { λ r. ⌜ r ≡ code-of-all (length (now (lengths .entry)))
+        (told (segmentsOf minutes (now (lengths .entry)) (now (totals .entry)) (now (firsts .entry)) (now (lasts .entry)) (now (levels .entry)))) ⌝ }
+    ensures plain { λ r. ⌜ (length (now (lengths .entry)) ≤ farthest → r ≡ code-of-all (length (now (lengths .entry)))
+        (segmentsOf minutes (now (lengths .entry)) (now (totals .entry)) (now (firsts .entry)) (now (lasts .entry)) (now (levels .entry)))) ⌝ }
+    ensures firsts { λ r. ⌜ now (firsts .exit) ≡
+        firstsOf minutes (now (lengths .entry)) (now (totals .entry)) (now (firsts .entry)) (now (lasts .entry)) (now (levels .entry)) ⌝ }
+    ensures lasts { λ r. ⌜ now (lasts .exit) ≡
+        lastsOf minutes (now (lengths .entry)) (now (totals .entry)) (now (firsts .entry)) (now (lasts .entry)) (now (levels .entry)) ⌝ }
+    ensures levels { λ r. ⌜ now (levels .exit) ≡
+        levelsOf minutes (now (lengths .entry)) (now (totals .entry)) (now (firsts .entry)) (now (lasts .entry)) (now (levels .entry)) ⌝ }
 {
     match chart::segments(minutes, lengths, totals, firsts, lasts, levels) {
         Filled::Done => lengths.len() as i64,
-        Filled::Refused(number, place) => refusal(number, place),
+        Filled::Refused(number, place) => far_refusal(number, place),
     }
 }
 
@@ -106,14 +145,16 @@ pub extern "C" fn chart_mark(
     minute: usize,
     levels: &mut [f64],
 ) -> i64
-    ensures { λ r. ⌜ r ≡ code (kindOf (now (levels .entry)) (markOf minutes (now (lengths .entry)) (now (totals .entry)) minute)) ⌝ }
-    ensures { λ r. ⌜ now (levels .exit) ≡ levelsAfter (now (levels .entry)) (markOf minutes (now (lengths .entry)) (now (totals .entry)) minute) ⌝ }
+    ensures answer { λ r. ⌜ r ≡ code (kindOf (now (levels .entry)) (told (markOf minutes (now (lengths .entry)) (now (totals .entry)) minute))) ⌝ }
+    ensures plain { λ r. ⌜ (length (now (lengths .entry)) ≤ farthest →
+        r ≡ code (kindOf (now (levels .entry)) (markOf minutes (now (lengths .entry)) (now (totals .entry)) minute))) ⌝ }
+    ensures levels { λ r. ⌜ now (levels .exit) ≡ levelsAfter (now (levels .entry)) (markOf minutes (now (lengths .entry)) (now (totals .entry)) minute) ⌝ }
 {
     match chart::mark_of(minutes, lengths, totals, minute) {
         Mark::Level(level) => show(0, level, level, levels),
         Mark::Rise(from, to) => show(1, from, to, levels),
         Mark::Fall(from, to) => show(2, from, to, levels),
-        Mark::Refused(number, place) => refusal(number, place),
+        Mark::Refused(number, place) => far_refusal(number, place),
     }
 }
 
@@ -138,11 +179,16 @@ pub extern "C" fn sheet_read(
     totals: &mut [i64],
     fields: &mut [u64],
 ) -> i64
-    ensures { λ r. ⌜ r ≡ code (readingOf (now (sheet .entry)) (now (samples .entry)) (now (lengths .entry)) (now (totals .entry)) (now (fields .entry))) ⌝ }
-    ensures { λ r. ⌜ now (samples .exit) ≡ samplesRead (now (sheet .entry)) (now (samples .entry)) (now (lengths .entry)) (now (totals .entry)) (now (fields .entry)) ⌝ }
-    ensures { λ r. ⌜ now (lengths .exit) ≡ lengthsRead (now (sheet .entry)) (now (samples .entry)) (now (lengths .entry)) (now (totals .entry)) (now (fields .entry)) ⌝ }
-    ensures { λ r. ⌜ now (totals .exit) ≡ totalsRead (now (sheet .entry)) (now (samples .entry)) (now (lengths .entry)) (now (totals .entry)) (now (fields .entry)) ⌝ }
-    ensures { λ r. ⌜ now (fields .exit) ≡ fieldsRead (now (sheet .entry)) (now (samples .entry)) (now (lengths .entry)) (now (totals .entry)) (now (fields .entry)) ⌝ }
+    ensures answer { λ r. ⌜ r ≡
+        code (readingOf (now (sheet .entry)) (now (samples .entry)) (now (lengths .entry)) (now (totals .entry)) (now (fields .entry))) ⌝ }
+    ensures samples { λ r. ⌜ now (samples .exit) ≡
+        samplesRead (now (sheet .entry)) (now (samples .entry)) (now (lengths .entry)) (now (totals .entry)) (now (fields .entry)) ⌝ }
+    ensures lengths { λ r. ⌜ now (lengths .exit) ≡
+        lengthsRead (now (sheet .entry)) (now (samples .entry)) (now (lengths .entry)) (now (totals .entry)) (now (fields .entry)) ⌝ }
+    ensures totals { λ r. ⌜ now (totals .exit) ≡
+        totalsRead (now (sheet .entry)) (now (samples .entry)) (now (lengths .entry)) (now (totals .entry)) (now (fields .entry)) ⌝ }
+    ensures fields { λ r. ⌜ now (fields .exit) ≡
+        fieldsRead (now (sheet .entry)) (now (samples .entry)) (now (lengths .entry)) (now (totals .entry)) (now (fields .entry)) ⌝ }
 {
     if fields.len() < 3 {
         return no_room(sheet);
@@ -186,19 +232,21 @@ pub extern "C" fn sheet_write(
     totals: &[i64],
     out: &mut [u8],
 ) -> i64
-    ensures { λ r. ⌜ r ≡ code (writeOf (now (samples .entry)) smoothing (now (lengths .entry)) (now (totals .entry)) (now (out .entry))) ⌝ }
-    ensures { λ r. ⌜ now (out .exit) ≡ writtenAfter (now (samples .entry)) smoothing (now (lengths .entry)) (now (totals .entry)) (now (out .entry)) ⌝ }
+    ensures answer { λ r. ⌜ r ≡ code (told (writeOf (now (samples .entry)) smoothing (now (lengths .entry)) (now (totals .entry)) (now (out .entry)))) ⌝ }
+    ensures plain { λ r. ⌜ (length (now (lengths .entry)) ≤ farthest →
+        r ≡ code (writeOf (now (samples .entry)) smoothing (now (lengths .entry)) (now (totals .entry)) (now (out .entry)))) ⌝ }
+    ensures out { λ r. ⌜ now (out .exit) ≡ writtenAfter (now (samples .entry)) smoothing (now (lengths .entry)) (now (totals .entry)) (now (out .entry)) ⌝ }
 {
     match sheet::write(samples, smoothing, lengths, totals, out) {
         Written::Bytes(bytes) => bytes as i64,
-        Written::Refused(number, place) => refusal(number, place),
+        Written::Refused(number, place) => far_refusal(number, place),
     }
 }
 
 #[no_mangle]
 pub extern "C" fn sheet_complete(sheet: &[u8], out: &mut [u8]) -> i64
-    ensures { λ r. ⌜ r ≡ code (completeOf (now (sheet .entry)) (now (out .entry))) ⌝ }
-    ensures { λ r. ⌜ now (out .exit) ≡ completedAfter (now (sheet .entry)) (now (out .entry)) ⌝ }
+    ensures answer { λ r. ⌜ r ≡ code (completeOf (now (sheet .entry)) (now (out .entry))) ⌝ }
+    ensures out { λ r. ⌜ now (out .exit) ≡ completedAfter (now (sheet .entry)) (now (out .entry)) ⌝ }
 {
     match sheet::complete(sheet, out) {
         Written::Bytes(bytes) => bytes as i64,

@@ -19,6 +19,7 @@ pub mod Followed
 pub mod Concluded
 pub mod OptimalityLaws
 pub mod CheckLaws
+pub mod PlaceLaws
 pub mod LineLaws
 pub mod DualLaws
 pub mod Records

@@ -35,6 +35,7 @@ pub enum Checked {
     Refused(u32, usize),
 }
 
+#[repr(C)]
 pub struct Segment {
     pub length: u32,
     pub total: i64,

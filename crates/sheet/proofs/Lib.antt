@@ -5,6 +5,7 @@ pub mod Chains
 pub mod LoadLaws
 pub mod Judged
 pub mod OwnLine
+pub mod PlaceLaws
 pub mod SheetOf
 pub mod ReadLaws
 pub mod CompleteLaws

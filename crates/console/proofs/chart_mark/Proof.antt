@@ -2,7 +2,9 @@
 use borrow.Author.Needs.{needs}
 use mathlib.Core.Path.{_≡_, refl, sym, ap, _∙_}
 use mathlib.Core.List.{List}
+use Prim.Native.Nat.{_≤_}
 use lib.IntN.{ℤ}
+use lib.ListN.{length}
 use lib.Ieee.{Float}
 use mir.Syntax.{w64}
 use mir.Val.{SFits}
@@ -10,8 +12,10 @@ use mir.Facts.{toZ-ofZ}
 use Rattle.level.specs.Answer.{Answer}
 use Rattle.chart.specs.Chart.{Shown, marked, markOf}
 use Rattle.chart.specs.declared.Mark.{Mark}
-use Rattle.console.specs.Code.{code}
+use Rattle.chart.proofs.PlaceLaws.{mark-placed}
+use Rattle.console.specs.Code.{code, farthest, told}
 use Rattle.console.specs.Mark.{kindOf, levelsAfter}
+use Rattle.console.proofs.Told.{plainly}
 use Rattle.console.proofs.chart_mark.Statement.{statement}
 use Rattle.console.proofs.chart_mark.Tie as tie
 
@@ -23,12 +27,20 @@ answer g = let a = start g .args in markOf (a .minutes) (a .lengths .now) (a .to
 
 -- a result and a list that the mark m says, where m was found
 module _ (g : tie.After-mark-of) {m : Mark} (e : g .mark-of .result ≡ m) where
-  found : marked m ≡ answer g
-  found = ap marked (sym e) ∙ g .mark-of .ensures
+  abbrev l : List Float
+  l = start g .args .levels .now
 
-  says : {r : ℤ} {out : List Float} → let l = start g .args .levels .now in
-      r ≡ code (kindOf l (marked m)) → out ≡ levelsAfter l (marked m) → (r ≡ code (kindOf l (answer g))) × (out ≡ levelsAfter l (answer g))
-  says p q = let l = start g .args .levels .now in (p ∙ ap (λ m. code (kindOf l m)) found, q ∙ ap (levelsAfter l) found)
+  -- what the callee promised
+  promised : marked m ≡ answer g
+  promised = ap marked (sym e) ∙ g .mark-of .ensures
+
+  plain : {r : ℤ} → r ≡ code (kindOf l (told (answer g))) → length (start g .args .lengths .now) ≤ farthest → r ≡ code (kindOf l (answer g))
+  plain = let a = start g .args in plainly (λ k. code (kindOf l k)) (λ h. mark-placed (a .minutes) (a .lengths .now) (a .totals .now) h (a .minute))
+
+  says : {r : ℤ} {out : List Float} → r ≡ code (kindOf l (told (marked m))) → out ≡ levelsAfter l (marked m)
+      → (r ≡ code (kindOf l (told (answer g))))
+      × ((length (start g .args .lengths .now) ≤ farthest → r ≡ code (kindOf l (answer g))) × (out ≡ levelsAfter l (answer g)))
+  says p q = let r = p ∙ ap (λ k. code (kindOf l (told k))) promised in (r, (plain r, q ∙ ap (levelsAfter l) promised))
 
 returns : tie.Need-returns
 returns c =
@@ -54,8 +66,8 @@ returns-3 c =
 returns-4 : tie.Need-returns-4
 returns-4 c =
     let n = c .before .before in
-    let r : SFits w64 (c .refusal .result) = record { sfits = c .refusal .ok } in
-    says (n .before .before) (n .number .given .1) (toZ-ofZ r ∙ c .refusal .ensures) refl
+    let r : SFits w64 (c .far-refusal .result) = record { sfits = c .far-refusal .ok } in
+    says (n .before .before) (n .number .given .1) (toZ-ofZ r ∙ c .far-refusal .ensures) refl
 
 pub chart-mark-spec : {M : Type 1} → statement M
 chart-mark-spec =

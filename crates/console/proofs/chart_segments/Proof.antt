@@ -1,32 +1,53 @@
 -- `console::chart_segments` meets its contract.
 use borrow.Author.Needs.{needs}
-use mathlib.Core.Path.{sym, ap, _∙_}
+use mathlib.Core.Path.{_≡_, sym, ap, _∙_}
+use Prim.Native.Nat.{_≤_}
 use native.Mathlib.Omega.{arith}
+use lib.IntN.{ℤ}
 use lib.ListN.{length}
 use mir.Syntax.{w64}
 use mir.Val.{SFits}
 use mir.Facts.{toZ-ofZ, toZ-pos}
+use Rattle.level.specs.Answer.{Answer}
 use Rattle.denoise.specs.Dual.{filled}
-use Rattle.console.specs.Code.{code-of-all}
+use Rattle.chart.specs.Whole.{segmentsOf}
+use Rattle.chart.proofs.PlaceLaws.{segments-placed}
+use Rattle.console.specs.Code.{code-of-all, farthest, told}
+use Rattle.console.proofs.Told.{plainly}
 use Rattle.console.proofs.chart_segments.Statement.{statement}
 use Rattle.console.proofs.chart_segments.Tie as tie
 
-abbrev start : tie.After-segments → tie.Start
-start g = g .before .before .before .before .before .before .before .before
+module _ (g : tie.After-segments) where
+  abbrev a : tie.Start
+  a = g .before .before .before .before .before .before .before .before
+
+  abbrev answer : Answer (Unit {0})
+  answer = segmentsOf (a .args .minutes) (a .args .lengths .now) (a .args .totals .now) (a .args .firsts .now) (a .args .lasts .now) (a .args .levels .now)
+
+  -- what the callee promised
+  promised : filled (g .segments .result) ≡ answer
+  promised = g .segments .ensures .0
+
+  plain : {r : ℤ} → let n = length (a .args .lengths .now) in r ≡ code-of-all n (told answer) → n ≤ farthest → r ≡ code-of-all n answer
+  plain =
+      plainly (code-of-all (length (a .args .lengths .now))) (λ h.
+      segments-placed (a .args .minutes) (a .args .lengths .now) (a .args .totals .now) h (a .args .firsts .now) (a .args .lasts .now) (a .args .levels .now))
 
 returns : tie.Need-returns
 returns c =
     let g = c .before .before .before .before .before .before .before .before in
-    let m = length (start g .args .lengths .now) in
-    (toZ-pos w64 (omega arith) ∙ ap (code-of-all m) (sym (ap filled (c .enum-told .given .1)) ∙ g .segments .ensures .0), g .segments .ensures .1)
+    let m = length (a g .args .lengths .now) in
+    let r = toZ-pos w64 (omega arith) ∙ ap (λ k. code-of-all m (told k)) (sym (ap filled (c .enum-told .given .1)) ∙ promised g) in
+    (r, (plain g r, g .segments .ensures .1))
 
 returns-2 : tie.Need-returns-2
 returns-2 c =
-    let r : SFits w64 (c .refusal .result) = record { sfits = c .refusal .ok } in
+    let s : SFits w64 (c .far-refusal .result) = record { sfits = c .far-refusal .ok } in
     let n = c .before .before in
     let g = n .before .before .before .before .before .before .before .before in
-    let m = length (start g .args .lengths .now) in
-    (toZ-ofZ r ∙ c .refusal .ensures ∙ ap (code-of-all m) (sym (ap filled (n .number .given .1)) ∙ g .segments .ensures .0), g .segments .ensures .1)
+    let m = length (a g .args .lengths .now) in
+    let r = toZ-ofZ s ∙ c .far-refusal .ensures ∙ ap (λ k. code-of-all m (told k)) (sym (ap filled (n .number .given .1)) ∙ promised g) in
+    (r, (plain g r, g .segments .ensures .1))
 
 pub chart-segments-spec : {M : Type 1} → statement M
 chart-segments-spec =

@@ -1,38 +1,27 @@
 -- `console::refusal` meets its contract: below 2^63 nothing wraps.
-use mathlib.Core.Path.{_≡_, ap, _∙_}
-use mathlib.Core.Logic.{⊎-elim}
-use Prim.Native.Nat.{ℕ, _+_, _*_, min}
+use mathlib.Core.Path.{_≡_, _∙_}
+use Prim.Native.Nat.{ℕ, _+_, _*_}
 use native.Mathlib.Omega.{arith}
 use lib.IntN.{pos, negℤ, _-ℤ_, +ℤ-idl}
 use mir.Syntax.{w64}
-use mir.Val.{toZ, ofZ}
+use mir.Val.{SFits, toZ, ofZ}
 use Rattle.integers.specs.Bounds.{Atmost, cleaning, fit, clean}
 use Rattle.console.proofs.refusal.Statement.{statement}
 use Rattle.console.proofs.refusal.Tie as tie
 
-told-is : (c : tie.Joined1) → c .if1 .told ≡ min (c .before .args .place) 18014398509481984
-told-is c = ⊎-elim (λ w. omega arith) (λ w. omega arith) (c .if1 .came)
+-- a number that is as small as these are, negated
+module _ (n : ℕ) (small : Atmost 4611686022722355199 n) where
+  negated : toZ w64 (ofZ w64 (pos 0 -ℤ toZ w64 n)) ≡ negℤ (pos n)
+  negated = clean (search cleaning depth 12) tt ∙ +ℤ-idl (negℤ (pos n))
 
-small : (c : tie.After-row-known) → Atmost 4611686022722355199 (256 * c .before .if1 .told + c .before .before .args .number)
-small c = let t = told-is (c .before) in record { atmost = omega arith }
-
-mul-result : tie.Need-mul-result
-mul-result c = let t = told-is (c .before) in omega arith
-
-add-result : tie.Need-add-result
-add-result c = omega (arith, small c .atmost)
-
-cast-result : tie.Need-cast-result
-cast-result c = record { sfits = omega (arith, small c .atmost) }
-
-sub-result : tie.Need-sub-result
-sub-result c = let s = small c in fit (search cleaning depth 12) tt
+  fits : SFits w64 (toZ w64 0 -ℤ toZ w64 n)
+  fits = fit (search cleaning depth 12) tt
 
 returns : tie.Need-returns
-returns c = negated (256 * c .before .if1 .told + c .before .before .args .number) (small c) ∙ ap (λ (t : ℕ). negℤ (pos (256 * t + c .before .before .args .number))) (told-is (c .before))
-  where
-    negated : (n : ℕ) → Atmost 4611686022722355199 n → toZ w64 (ofZ w64 (pos 0 -ℤ toZ w64 n)) ≡ negℤ (pos n)
-    negated n h = clean (search cleaning depth 12) tt ∙ +ℤ-idl (negℤ (pos n))
+returns c = negated (256 * c .args .place + c .args .number) (record { atmost = omega arith })
+
+sub-result : tie.Need-sub-result
+sub-result c = fits (256 * c .args .place + c .args .number) (record { atmost = omega arith })
 
 pub refusal-spec : {M : Type 1} → statement M
-refusal-spec = tie.close (tie.spec mul-result add-result cast-result sub-result returns)
+refusal-spec = tie.close (tie.spec (λ c. omega arith) (λ c. omega arith) (λ c. record { sfits = omega arith }) sub-result returns)

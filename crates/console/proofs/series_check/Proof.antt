@@ -1,22 +1,28 @@
 -- `console::series_check` meets its contract.
 use borrow.Author.Needs.{needs}
-use mathlib.Core.Path.{sym, ap, _∙_}
+use mathlib.Core.Path.{_≡_, ap, _∙_}
+use native.Mathlib.Omega.{arith}
 use mir.Syntax.{w64}
 use mir.Val.{SFits}
 use mir.Facts.{toZ-ofZ}
-use Rattle.denoise.specs.Check.{checked}
-use Rattle.console.specs.Code.{code-of-none}
+use Rattle.denoise.specs.Check.{checked, checkOf}
+use Rattle.denoise.proofs.PlaceLaws.{check-placed}
+use Rattle.console.specs.Code.{code-of-none, told}
+use Rattle.console.proofs.Told.{plainly}
 use Rattle.console.proofs.series_check.Statement.{statement}
 use Rattle.console.proofs.series_check.Tie as tie
 
-returns : tie.Need-returns
-returns c = ap code-of-none (sym (ap checked (c .enum-told .given .1)) ∙ c .before .before .check .ensures .0)
+-- what the callee promised
+promised : (g : tie.After-check) → let a = g .before .before .args in
+    checked (g .check .result) ≡ checkOf (a .samples .now) (a .smoothing) (a .lengths .now) (a .totals .now)
+promised g = g .check .ensures .0
 
-returns-2 : tie.Need-returns-2
-returns-2 c =
-    let r : SFits w64 (c .refusal .result) = record { sfits = c .refusal .ok } in
-    let n = c .before .before in
-    toZ-ofZ r ∙ c .refusal .ensures ∙ ap code-of-none (sym (ap checked (n .number .given .1)) ∙ n .before .before .check .ensures .0)
+returns : tie.Need-returns
+returns c =
+    let a = c .before .before .before .args in
+    let r : SFits w64 (c .verdict .result) = record { sfits = c .verdict .ok } in
+    let e = toZ-ofZ r ∙ c .verdict .ensures ∙ ap (λ k. code-of-none (told k)) (promised (c .before)) in
+    (e, plainly code-of-none (check-placed (a .samples .now) (a .smoothing) (a .lengths .now) (a .totals .now) (omega arith)) e)
 
 pub series-check-spec : {M : Type 1} → statement M
-series-check-spec = tie.close (tie.spec (λ c κs. search needs) (λ c. search needs) (λ c. search needs) (λ c κs. search needs) returns returns-2)
+series-check-spec = tie.close (tie.spec (λ c κs. search needs) (λ c κs. search needs) returns)

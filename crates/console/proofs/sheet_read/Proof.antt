@@ -1,36 +1,57 @@
 -- `console::sheet_read` meets its contract.
 use borrow.Author.Needs.{needs}
 use mathlib.Core.Path.{_≡_, sym, ap, _∙_}
-use Prim.Native.Nat.{ℕ}
-use lib.IntN.{pos}
+use mathlib.Core.List.{List}
+use Prim.Native.Nat.{ℕ, _≤_}
+use native.Mathlib.Omega.{arith}
+use lib.IntN.{ℤ, pos}
 use mir.Syntax.{w64}
 use mir.Val.{SFits}
 use mir.Facts.{toZ-ofZ}
 use Rattle.level.specs.Answer.{Answer, refused, given}
 use Rattle.denoise.specs.Limits.{refill, on-success}
+use Rattle.denoise.proofs.PlaceLaws.{place-most}
 use Rattle.sheet.specs.Answer.{headed, fields}
 use Rattle.sheet.specs.Format.{segment-count}
 use Rattle.sheet.specs.Read.{accepted, readOf}
 use Rattle.sheet.specs.declared.Fields.{Fields}
+use Rattle.sheet.proofs.PlaceLaws.{read-placed}
 use Rattle.console.specs.Code.{code}
-use Rattle.console.specs.Reading.{three, readingOf}
+use Rattle.console.specs.Reading.{three, readingOf, samplesRead, lengthsRead, totalsRead}
 use Rattle.console.proofs.Rooms.{few-fields, few-kept, read-refused, read-given, read-lists}
 use Rattle.console.proofs.sheet_read.Statement.{statement}
 use Rattle.console.proofs.sheet_read.Tie as tie
 
-abbrev answer : tie.Start → Answer ℕ
-answer a = readingOf (a .args .sheet .now) (a .args .samples .now) (a .args .lengths .now) (a .args .totals .now) (a .args .fields .now)
+-- what is handed in, and the answer
+module _ (a : tie.Start) where
+  abbrev s : List ℕ
+  s = a .args .sheet .now
+
+  abbrev ys : List ℤ
+  ys = a .args .samples .now
+
+  abbrev ns : List ℕ
+  ns = a .args .lengths .now
+
+  abbrev ts : List ℤ
+  ts = a .args .totals .now
+
+  abbrev fs : List ℕ
+  fs = a .args .fields .now
+
+  abbrev answer : Answer ℕ
+  answer = readingOf s ys ns ts fs
 
 -- no room for the fields
 module _ (t : tie.Then1) where
   abbrev first : tie.Start
   first = t .before .before .before .before
 
-  few : answer first ≡ accepted (first .args .sheet .now) (refused 5 0)
-  few = few-fields (first .args .sheet .now) (first .args .samples .now) (first .args .lengths .now) (first .args .totals .now) (first .args .fields .now) (t .if1 .taken)
+  few : answer first ≡ accepted (s first) (refused 5 0)
+  few = few-fields (s first) (ys first) (ns first) (ts first) (fs first) (t .if1 .taken)
 
   kept : {C : Type 0} (new old : C) → old ≡ on-success (answer first) new old
-  kept = few-kept (first .args .sheet .now) (first .args .samples .now) (first .args .lengths .now) (first .args .totals .now) (first .args .fields .now) (t .if1 .taken)
+  kept = few-kept (s first) (ys first) (ns first) (ts first) (fs first) (t .if1 .taken)
 
 returns : tie.Need-returns
 returns c =
@@ -38,7 +59,7 @@ returns c =
     let r : SFits w64 (c .no-room .result) = record { sfits = c .no-room .ok } in
     (toZ-ofZ r ∙ c .no-room .ensures ∙ ap code (sym (few t)), (kept t _ _, (kept t _ _, (kept t _ _, kept t _ _))))
 
--- with room for the fields, the other lists are as the reader leaves them
+-- with room for the fields
 module _ (g : tie.After-read) where
   abbrev else1 : tie.Else1
   else1 = g .before .before .before .before
@@ -46,14 +67,34 @@ module _ (g : tie.After-read) where
   abbrev a : tie.Start
   a = else1 .before .before .before .before
 
+  -- what the callee promised
+  promised : headed (g .read .result) ≡ readOf (s a) (ys a) (ns a) (ts a)
+  promised = g .read .ensures .0
+
+  near : {number place : ℕ} → headed (g .read .result) ≡ refused number place → place ≤ 65536
+  near e = place-most (read-placed (s a) (ys a) (ns a) (ts a)) (sym promised ∙ e)
+
   refused-too : {number place : ℕ} → headed (g .read .result) ≡ refused number place → answer a ≡ refused number place
-  refused-too e = read-refused (a .args .sheet .now) (a .args .samples .now) (a .args .lengths .now) (a .args .totals .now) (a .args .fields .now) (else1 .if1 .left) (sym (g .read .ensures .0) ∙ e)
+  refused-too e = read-refused (s a) (ys a) (ns a) (ts a) (fs a) (else1 .if1 .left) (sym promised ∙ e)
 
-  given-too : {f : Fields} → headed (g .read .result) ≡ given f → (f ≡ fields (a .args .sheet .now)) × (answer a ≡ given (segment-count (a .args .sheet .now)))
-  given-too e = read-given (a .args .sheet .now) (a .args .samples .now) (a .args .lengths .now) (a .args .totals .now) (a .args .fields .now) (else1 .if1 .left) (sym (g .read .ensures .0) ∙ e)
+  given-too : {f : Fields} → headed (g .read .result) ≡ given f → (f ≡ fields (s a)) × (answer a ≡ given (segment-count (s a)))
+  given-too e = read-given (s a) (ys a) (ns a) (ts a) (fs a) (else1 .if1 .left) (sym promised ∙ e)
 
-  as-read : {C : Type 0} (new old : C) → on-success (readOf (a .args .sheet .now) (a .args .samples .now) (a .args .lengths .now) (a .args .totals .now)) new old ≡ on-success (answer a) new old
-  as-read = read-lists (a .args .sheet .now) (a .args .samples .now) (a .args .lengths .now) (a .args .totals .now) (a .args .fields .now) (else1 .if1 .left)
+  -- the other lists are as the reader leaves them
+  as-read : {C : Type 0} (new old : C) → on-success (readOf (s a) (ys a) (ns a) (ts a)) new old ≡ on-success (answer a) new old
+  as-read = read-lists (s a) (ys a) (ns a) (ts a) (fs a) (else1 .if1 .left)
+
+  samples-are : g .read .last .1 .0 ≡ samplesRead (s a) (ys a) (ns a) (ts a) (fs a)
+  samples-are = g .read .ensures .1 .0 ∙ as-read _ _
+
+  lengths-are : g .read .last .1 .1 .0 ≡ lengthsRead (s a) (ys a) (ns a) (ts a) (fs a)
+  lengths-are = g .read .ensures .1 .1 .0 ∙ as-read _ _
+
+  totals-are : g .read .last .1 .1 .1 .0 ≡ totalsRead (s a) (ys a) (ns a) (ts a) (fs a)
+  totals-are = g .read .ensures .1 .1 .1 .0 ∙ as-read _ _
+
+refusal-requires : tie.Need-refusal-requires
+refusal-requires c = let n = c .before in omega (arith, near (n .before .before .before .before .before .before) (ap headed (n .number .given .1)))
 
 returns-2 : tie.Need-returns-2
 returns-2 c =
@@ -61,15 +102,10 @@ returns-2 c =
     let v = w .before .before .before in
     let g = v .before .before .before .before .before .before in
     let r : SFits w64 (w .tell .result) = record { sfits = w .tell .ok } in
-    let t = given-too g (ap headed (v .f .given .1)) in (
+    let t = given-too g (ap headed (v .f .given .1)) in
+    let three-are = w .tell .ensures .1 ∙ ap (λ f. refill (three f) (fs (a g))) (t .0) in (
       toZ-ofZ r ∙ w .tell .ensures .0 ∙ ap (λ f. pos (f .segments)) (t .0) ∙ ap code (sym (t .1)),
-      (
-        g .read .ensures .1 .0 ∙ as-read g _ _,
-        (
-          g .read .ensures .1 .1 .0 ∙ as-read g _ _,
-          (g .read .ensures .1 .1 .1 .0 ∙ as-read g _ _, rw (t .1) (w .tell .ensures .1 ∙ ap (λ f. refill (three f) (a g .args .fields .now)) (t .0))),
-        ),
-      ),
+      (samples-are g, (lengths-are g, (totals-are g, rw (t .1) three-are))),
     )
 
 returns-3 : tie.Need-returns-3
@@ -77,10 +113,8 @@ returns-3 c =
     let n = c .before .before in
     let g = n .before .before .before .before .before .before in
     let r : SFits w64 (c .refusal .result) = record { sfits = c .refusal .ok } in
-    let t = refused-too g (ap headed (n .number .given .1)) in (
-      toZ-ofZ r ∙ c .refusal .ensures ∙ ap code (sym t),
-      (g .read .ensures .1 .0 ∙ as-read g _ _, (g .read .ensures .1 .1 .0 ∙ as-read g _ _, (g .read .ensures .1 .1 .1 .0 ∙ as-read g _ _, rw t))),
-    )
+    let t = refused-too g (ap headed (n .number .given .1)) in
+    (toZ-ofZ r ∙ c .refusal .ensures ∙ ap code (sym t), (samples-are g, (lengths-are g, (totals-are g, rw t))))
 
 pub sheet-read-spec : {M : Type 1} → statement M
 sheet-read-spec =
@@ -92,7 +126,7 @@ sheet-read-spec =
     (λ c. search needs)
     (λ c κs. search needs)
     (λ c. search needs)
-    (λ c κs. search needs)
+    refusal-requires
     (λ c. search needs)
     (λ c. search needs)
     (λ c. search needs)

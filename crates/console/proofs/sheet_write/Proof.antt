@@ -5,16 +5,19 @@ use mathlib.Core.List.{List}
 use Prim.Native.Nat.{ℕ, _≤_}
 use native.Mathlib.Omega.{arith}
 use lib.IntN.{ℤ}
+use lib.ListN.{length}
 use mir.Syntax.{w64}
 use mir.Val.{SFits}
 use mir.Facts.{toZ-ofZ, toZ-pos}
-use Rattle.level.specs.Answer.{given}
-use Rattle.sheet.specs.Write.{written, writeOf}
+use Rattle.level.specs.Answer.{Answer, given}
+use Rattle.sheet.specs.Write.{written, writeOf, writtenAfter}
 use Rattle.sheet.specs.Complete.{fine}
 use Rattle.sheet.proofs.Chains.{passed, lists-alike}
 use Rattle.sheet.proofs.Judged.{judged}
 use Rattle.sheet.proofs.SheetOf.{has-room}
-use Rattle.console.specs.Code.{code}
+use Rattle.sheet.proofs.PlaceLaws.{write-placed}
+use Rattle.console.specs.Code.{code, farthest, told}
+use Rattle.console.proofs.Told.{plainly}
 use Rattle.console.proofs.sheet_write.Statement.{statement}
 use Rattle.console.proofs.sheet_write.Tie as tie
 
@@ -24,27 +27,48 @@ bytes-few ys L ns ts out b e =
     let j = judged ys L ns ts (p .1) in
     omega (arith, has-room out _ b (p .0) .1)
 
-abbrev start : tie.After-known-told → tie.Start
-start c = c .before .before .before .before .before .before .before .before .before
+module _ (g : tie.After-write) where
+  abbrev a : tie.Start
+  a = g .before .before .before .before
 
-answer : (c : tie.After-known-told) → let a = start c .args in given (c .before .bytes .given .0 .0) ≡ writeOf (a .samples .now) (a .smoothing) (a .lengths .now) (a .totals .now) (a .out .now)
-answer c = sym (ap written (c .before .bytes .given .1)) ∙ c .before .before .before .before .before .write .ensures .0
+  abbrev answer : Answer ℕ
+  answer = writeOf (a .args .samples .now) (a .args .smoothing) (a .args .lengths .now) (a .args .totals .now) (a .args .out .now)
 
-few : (c : tie.After-known-told) → c .before .bytes .given .0 .0 ≤ 1048608
-few c = let a = start c .args in bytes-few (a .samples .now) (a .smoothing) (a .lengths .now) (a .totals .now) (a .out .now) _ (sym (answer c))
+  -- what the callee promised
+  promised : written (g .write .result) ≡ answer
+  promised = g .write .ensures .0
+
+  bytes : g .write .last .1 .1 .1 .1 .0
+      ≡ writtenAfter (a .args .samples .now) (a .args .smoothing) (a .args .lengths .now) (a .args .totals .now) (a .args .out .now)
+  bytes = g .write .ensures .1
+
+  few : {b : ℕ} → written (g .write .result) ≡ given b → b ≤ 1048608
+  few {b} e =
+      bytes-few (a .args .samples .now) (a .args .smoothing) (a .args .lengths .now) (a .args .totals .now) (a .args .out .now) b (sym promised ∙ e)
+
+  plain : {r : ℤ} → r ≡ code (told answer) → length (a .args .lengths .now) ≤ farthest → r ≡ code answer
+  plain =
+      plainly code
+      (write-placed (a .args .samples .now) (a .args .smoothing) (a .args .lengths .now) (a .args .totals .now) (a .args .out .now) (omega arith))
 
 cast-result : tie.Need-cast-result
-cast-result c = record { sfits = omega (arith, few c) }
+cast-result c = let b = c .before in record { sfits = omega (arith, few (b .before .before .before .before) (ap written (b .bytes .given .1))) }
 
 returns : tie.Need-returns
-returns c = (toZ-pos w64 (omega (arith, few c)) ∙ ap code (answer c), c .before .before .before .before .before .write .ensures .1)
+returns c =
+    let b = c .before in
+    let g = b .before .before .before .before in
+    let e = ap written (b .bytes .given .1) in
+    let r = toZ-pos w64 (omega (arith, few g e)) ∙ ap (λ k. code (told k)) (sym e ∙ promised g) in
+    (r, (plain g r, bytes g))
 
 returns-2 : tie.Need-returns-2
 returns-2 c =
-    let r : SFits w64 (c .refusal .result) = record { sfits = c .refusal .ok } in
+    let s : SFits w64 (c .far-refusal .result) = record { sfits = c .far-refusal .ok } in
     let n = c .before .before in
-    let l = n .before .before .before .before in
-    (toZ-ofZ r ∙ c .refusal .ensures ∙ ap code (sym (ap written (n .number .given .1)) ∙ l .write .ensures .0), l .write .ensures .1)
+    let g = n .before .before .before .before in
+    let r = toZ-ofZ s ∙ c .far-refusal .ensures ∙ ap (λ k. code (told k)) (sym (ap written (n .number .given .1)) ∙ promised g) in
+    (r, (plain g r, bytes g))
 
 pub sheet-write-spec : {M : Type 1} → statement M
 sheet-write-spec =
