@@ -1,14 +1,19 @@
 -- The levels that `level` takes are those within its limits.
 use mathlib.Core.Path.{_≡_, refl}
 use mathlib.Core.Bool.{Bool, true, false}
+use mathlib.Core.Logic.{⊎-elim}
 use native.Mathlib.Omega.{arith}
 use Prim.Native.Nat.{_*_}
-use lib.IntN.{ℤ, natAbs, _-ℤ_}
+use lib.IntN.{ℤ, pos, negsuc, natAbs, _-ℤ_}
+use lib.Signed.{ltZ}
 use borrow.Author.Tests.{le-ltb, ne-eqb}
+use Rattle.integers.specs.Order.{⋖→⩽}
+use Rattle.integers.specs.Linear.{int, lt-yes, lt-no}
 use Rattle.level.specs.Answer.{given, refuse-if}
 use Rattle.level.specs.Limits.{Valid, bad-length, bad-total, makeOf}
 use Rattle.level.specs.Order.{cross, signOf, compareOf}
 use Rattle.level.specs.declared.Level.{Level}
+use Rattle.level.proofs.OrderLaws.{total}
 use Rattle.level.proofs.Valid.{valid}
 use Rattle.denoise.proofs.Refusals.{never}
 
@@ -33,3 +38,21 @@ valid-compared s t x = go (bad-length s) (bad-length t) (bad-total s) (bad-total
     go false false true d p q r u e = never e
     go false false false true p q r u e = never e
     go false false false false p q r u e = (valid s p r, valid t q u)
+
+-- ---- what a comparison says of the cross products
+module _ (s t : Level) where
+  other : {X : Type 0} {x y : ℤ} → compareOf s t ≡ given x → compareOf s t ≡ given y → (x ≡ y → ⊥) → X
+  other e f n = let z = same e f in absurd (n z)
+    where
+      same : {x y : ℤ} → compareOf s t ≡ given x → compareOf s t ≡ given y → x ≡ y
+      same e f = cc
+
+  pub rising : compareOf s t ≡ given (negsuc 0) → ltZ (cross s t) (cross t s) ≡ true
+  rising e =
+      let v = valid-compared s t _ e in
+      ⊎-elim (λ p. lt-yes (p .0)) (⊎-elim (λ p. other e (p .1) (λ z. omega int)) (λ p. other e (p .1) (λ z. omega int))) (total s t (v .0) (v .1))
+
+  pub falling : compareOf s t ≡ given (pos 1) → ltZ (cross s t) (cross t s) ≡ false
+  falling e =
+      let v = valid-compared s t _ e in
+      ⊎-elim (λ p. other e (p .1) (λ z. omega int)) (⊎-elim (λ p. other e (p .1) (λ z. omega int)) (λ p. lt-no (⋖→⩽ (p .0)))) (total s t (v .0) (v .1))

@@ -3,7 +3,9 @@
 ghost use mathlib.Core.Path.{_≡_};
 ghost use Prim.Native.Nat.{suc, _<_, _≤_};
 ghost use lib.IntN.{natAbs};
+ghost use lib.Signed.{ltZ};
 ghost use Rattle.level.specs.Limits.{Valid};
+ghost use Rattle.level.specs.Order.{cross};
 ghost use Rattle.denoise.specs.Check.{checked};
 ghost use Rattle.denoise.specs.Walk.{halted, failed, sideOf, advancedOf, heldOf, openedOf, turnedOf, enteredOf, minuteOf, alongOf, followedOf, settledOf, Ahead};
 use super::Checked;
@@ -69,11 +71,27 @@ fn enter(smoothing: u64, d: Dual, s: Level, t: Level) -> Dual
         return begin(d, t);
     }
     match s.compare(t) {
-        Compared::Less => turn(smoothing, true, d, s, t),
-        Compared::Greater => turn(smoothing, false, d, s, t),
-        Compared::Equal => halt(d),
-        Compared::Refused(_, _) => halt(d),
+        Compared::Less => {}
+        Compared::Greater => {}
+        Compared::Equal => {
+            return halt(d);
+        }
+        Compared::Refused(_, _) => {
+            return halt(d);
+        }
     }
+    turn(smoothing, rises(s, t), d, s, t)
+}
+
+// Whether the line rises from s to t. Told by itself, so that the compiler takes the side without a branch.
+fn rises(s: Level, t: Level) -> bool
+    requires { ⌜ Valid s ⌝ }
+    requires { ⌜ Valid t ⌝ }
+    ensures { λ r. ⌜ r ≡ ltZ (cross s t) (cross t s) ⌝ }
+{
+    let here = s.total * t.length as i64;
+    let there = t.total * s.length as i64;
+    here < there
 }
 
 fn begin(d: Dual, t: Level) -> Dual
