@@ -9,7 +9,6 @@ ghost use Rattle.denoise.specs.Line.{lineOf, lengthsOf, totalsOf};
 ghost use Rattle.denoise.specs.Dual.{balancesOf, balancesAfter};
 ghost use Rattle.denoise.specs.Check.{checked, checkOf};
 ghost use Rattle.denoise.specs.Limits.{refill, on-success};
-ghost use Rattle.denoise.specs.Records.{lengths-of, totals-of};
 ghost use Rattle.level.specs.Answer.{refused};
 ghost use Rattle.chart.specs.Chart.{markOf};
 ghost use Rattle.chart.specs.Whole.{segmentsOf, firstsOf, lastsOf, levelsOf};
@@ -23,7 +22,6 @@ use chart::Mark;
 use denoise::Checked;
 use denoise::Drawn;
 use denoise::Filled;
-use denoise::Segment;
 use sheet::Fields;
 use sheet::Reading;
 use sheet::Written;
@@ -46,8 +44,8 @@ fn far_refusal(number: u32, place: usize) -> i64
 }
 
 // The result of a check: 0 where it passed.
-fn verdict(c: Checked) -> i64
-    ensures { λ r. ⌜ r ≡ code-of-none (told (checked c)) ⌝ }
+pub fn verdict(c: Checked) -> i64
+    ensures answer { λ r. ⌜ r ≡ code-of-none (told (checked c)) ⌝ }
 {
     match c {
         Checked::Passed => 0,
@@ -95,20 +93,6 @@ pub extern "C" fn series_check(
         r ≡ code-of-none (checkOf (now (samples .entry)) smoothing (now (lengths .entry)) (now (totals .entry)))) ⌝ }
 {
     verdict(denoise::check(samples, smoothing, lengths, totals))
-}
-
-#[no_mangle]
-pub extern "C" fn series_check_segments(
-    samples: &[i32],
-    smoothing: u64,
-    segments: &[Segment],
-) -> i64
-    ensures answer { λ r. ⌜ r ≡
-        code-of-none (told (checkOf (now (samples .entry)) smoothing (lengths-of (now (segments .entry))) (totals-of (now (segments .entry))))) ⌝ }
-    ensures plain { λ r. ⌜ (length (now (segments .entry)) ≤ farthest →
-        r ≡ code-of-none (checkOf (now (samples .entry)) smoothing (lengths-of (now (segments .entry))) (totals-of (now (segments .entry))))) ⌝ }
-{
-    verdict(denoise::check_segments(samples, smoothing, segments))
 }
 
 #[no_mangle]

@@ -27,10 +27,10 @@ use denote.Exit.{yes}
 use Rattle.denoise.specs.Records.{lengths-of, totals-of}
 use Rattle.denoise.proofs.PlaceLaws.{check-placed}
 use Rattle.denoise.proofs.Segment as T
 use Rattle.console.specs.Code.{code-of-none, farthest, told}
 use Rattle.console.proofs.Told.{plainly}
-use Rattle.console.proofs.series_check_segments as f
-use Rattle.console.proofs.series_check_segments.Proof.Callees.{Args, slice, vals, answer}
+use Rattle.records.proofs.series_check_segments as f
+use Rattle.records.proofs.series_check_segments.Proof.Callees.{Args, slice, vals, answer}
 
 -- ---- two facts, for an `ensures` of two clauses
 module _ {M : Type 1} (𝓤 : URA M) where

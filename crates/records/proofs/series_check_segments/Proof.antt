@@ -1,4 +1,4 @@
--- `console::series_check_segments` meets its contract: a walk of its MIR, by hand. It hands its lent run of segments to `denoise::check_segments`, and what
+-- `records::series_check_segments` meets its contract: a walk of its MIR, by hand. It hands its lent run of segments to `denoise::check_segments`, and what
 -- that answers to `verdict`.
 mod Callees
 mod Exit
@@ -46,19 +46,19 @@ use Rattle.denoise.proofs.check_segments as check
 use Rattle.denoise.proofs.check_segments.Symbol as check-def
 use Rattle.denoise.proofs.check_segments.Symbol.{name as #check}
 use Rattle.denoise.proofs.check_segments.Met as check-thm
 use Rattle.console.specs.Code.{code-of-none, told}
 use Rattle.console.proofs.verdict as verdict
 use Rattle.console.proofs.verdict.Symbol as verdict-def
 use Rattle.console.proofs.verdict.Symbol.{name as #verdict}
 use Rattle.console.proofs.verdict.Met as verdict-thm
-use Rattle.console.proofs.series_check_segments.Proof.Callees.{Args, slice, vals, verdict-vals, answer, Check, Verdict, Known, said-check, said-verdict, asked-check, asked-verdict}
-use Rattle.console.proofs.series_check_segments.Proof.Exit.{stayed, OwnY, OwnS, Tokens, Post, exits}
-use Rattle.console.proofs.series_check_segments.Proof.Locals.{checkedTy, word, samplesTy, segmentsTy, typed-checked, typed-result}
-use Rattle.console.proofs.series_check_segments.Key.{name as #series-check-segments}
-use Rattle.console.proofs.series_check_segments as f
-use Rattle.console.proofs.series_check_segments.Statement as stated
-use Rattle.console.proofs.series_check_segments.Code as code
-use Rattle.console.proofs.series_check_segments.Code.Mir as body
+use Rattle.records.proofs.series_check_segments.Proof.Callees.{Args, slice, vals, verdict-vals, answer, Check, Verdict, Known, said-check, said-verdict, asked-check, asked-verdict}
+use Rattle.records.proofs.series_check_segments.Proof.Exit.{stayed, OwnY, OwnS, Tokens, Post, exits}
+use Rattle.records.proofs.series_check_segments.Proof.Locals.{checkedTy, word, samplesTy, segmentsTy, typed-checked, typed-result}
+use Rattle.records.proofs.series_check_segments.Key.{name as #series-check-segments}
+use Rattle.records.proofs.series_check_segments as f
+use Rattle.records.proofs.series_check_segments.Statement as stated
+use Rattle.records.proofs.series_check_segments.Code as code
+use Rattle.records.proofs.series_check_segments.Code.Mir as body
 
 module _ {M : Type 1} (𝓤 : URA M) (H : Heap 𝓤) (A : Atoms 𝓤) (W : Given 𝓤 H A) (mem : Memory → SProp 𝓤) (run : Routine → Fun 𝓤)
     (κ κ′ : Lft) (q q′ : Share) (x : Args) (L-fits : x .1 .0 < 2 ^ 64) where

@@ -19,7 +19,7 @@ use Rattle.denoise.specs.declared.Checked.{Checked}
 use Rattle.denoise.proofs.Checked as K
 use Rattle.denoise.proofs.Checked.Laws as K′
 use Rattle.denoise.proofs.Segment as T
-use Rattle.console.proofs.series_check_segments.Code.Mir as body
+use Rattle.records.proofs.series_check_segments.Code.Mir as body
 
 abbrev pub checkedTy : Ty
 checkedTy = spell body.table (tyNamed (K.enum .name, []))

@@ -1,0 +1,24 @@
+// The check of a run of segment records, for C. It has an archive of its own: where one archive has both checks, the compiler lets them share their step,
+// hands it the walk in memory, and series_check takes twice as long.
+
+ghost use mathlib.Core.Path.{_≡_};
+ghost use Prim.Native.Nat.{_≤_};
+ghost use lib.ListN.{length};
+ghost use Rattle.denoise.specs.Check.{checkOf};
+ghost use Rattle.denoise.specs.Records.{lengths-of, totals-of};
+ghost use Rattle.console.specs.Code.{code-of-none, farthest, told};
+use denoise::Segment;
+
+#[no_mangle]
+pub extern "C" fn series_check_segments(
+    samples: &[i32],
+    smoothing: u64,
+    segments: &[Segment],
+) -> i64
+    ensures answer { λ r. ⌜ r ≡
+        code-of-none (told (checkOf (now (samples .entry)) smoothing (lengths-of (now (segments .entry))) (totals-of (now (segments .entry))))) ⌝ }
+    ensures plain { λ r. ⌜ (length (now (segments .entry)) ≤ farthest →
+        r ≡ code-of-none (checkOf (now (samples .entry)) smoothing (lengths-of (now (segments .entry))) (totals-of (now (segments .entry))))) ⌝ }
+{
+    console::verdict(denoise::check_segments(samples, smoothing, segments))
+}
