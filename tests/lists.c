@@ -1,6 +1,6 @@
 /* Reads and writes sheets and draws charts through the C entries, and compares results, every entry and byte of the lent areas, written or not, and
  * the inputs with an implementation written from paper 01 alone. Known lines; every refusal beside those that come after it; lists exact, too short
- * and longer; 1 and 65,536 minutes; random and damaged sheets, and lists of any shape; the stack that the header names.
+ * and longer; 1, 1,440, 1,441 and 65,536 minutes; random and damaged sheets, and lists of any shape; the stack that the header names.
  *
  *     lists [COUNT [GUARD]]      COUNT random sheets (default 40000)
  *
@@ -9,7 +9,6 @@
  *
  * Seeds are fixed. A difference prints the seed and what was handed over. */
 #define _GNU_SOURCE
-#include <signal.h>
 #include <stdio.h>
 #include <stdlib.h>
 #include <string.h>
@@ -20,8 +19,8 @@
 #include "harness.h"
 #include "random.h"
 
-/* the stack that the header names: for sheets of up to SMALL minutes, for longer ones, and for the calls on lists */
-enum { SMALL = 1024, SMALL_STACK = (1 << 20) + 16384, LARGE_STACK = (1 << 20) + 16384, LIST_STACK = 16384 };
+/* a day's minutes; the stack that the header names, for reading and completing sheets and for the other calls */
+enum { DAY = 1440, SHEET_STACK = (1 << 20) + 16384, LIST_STACK = 16384 };
 
 static uint64_t state;
 static unsigned long reads, writes, segments, marks, completed;
@@ -381,6 +380,13 @@ static void long_series(void)
         everywhere(y, MOST, lambda, &line);
         chart(MOST, &line, 16381);
     }
+    for (size_t n = DAY; n <= DAY + 1; n++) { /* the most minutes in little memory, and one more */
+        for (size_t i = 0; i < n; i++)
+            y[i] = random_sample(&state, 1);
+        paper_line_long(y, n, 50, &line);
+        everywhere(y, n, 50, &line);
+        chart(n, &line, 97);
+    }
     for (int32_t k = -1; k <= 1; k++) {
         y[0] = k * LIMIT;
         line.n = line.length[0] = 1;
@@ -465,37 +471,6 @@ static void on_stack(size_t bytes, void (*calls)(void))
     munmap(p, BELOW + bytes);
 }
 
-/* The stack pointer, looked at after each instruction: it also tells of memory that is set aside and not touched. */
-static volatile int following;
-static uintptr_t lowest;
-
-static void look(int number, siginfo_t *info, void *context)
-{
-    enum { TRAP = 256 }; /* the flag that makes the processor stop after the next instruction */
-    greg_t *registers = ((ucontext_t *)context)->uc_mcontext.gregs;
-    (void)number;
-    (void)info;
-    if ((uintptr_t)registers[REG_RSP] < lowest)
-        lowest = (uintptr_t)registers[REG_RSP];
-    if (following)
-        registers[REG_EFL] |= TRAP;
-    else
-        registers[REG_EFL] &= ~TRAP;
-}
-
-/* how far it falls, and the 128 bytes below it that a function may use */
-static size_t fall(void (*calls)(void))
-{
-    uintptr_t top = (uintptr_t)__builtin_frame_address(0);
-    lowest = top;
-    sigaction(SIGTRAP, &(struct sigaction){.sa_sigaction = look, .sa_flags = SA_SIGINFO}, NULL);
-    following = 1;
-    raise(SIGTRAP);
-    calls();
-    following = 0;
-    return top - lowest + 128;
-}
-
 static int32_t stack_y[MOST], stack_samples[MOST];
 static Line stack_line;
 static dawhikura_segment stack_records[MOST];
@@ -530,50 +505,26 @@ static void sheet_calls(void)
     put(sheet + 24, 4, size);
 }
 
-static void sheet_of(size_t n)
-{
-    paper_line_long(stack_y, n, 50, &stack_line);
-    paper_sheet(sheet, stack_y, n, 50, &stack_line);
-}
-
 static void answered(const i64 *want, int count)
 {
     for (int i = 0; i < count; i++)
         must(answers[i], want[i]);
 }
 
-static void sheet_answered(void)
-{
-    i64 m = (i64)get(sheet + 4, 4), size = (i64)get(sheet + 24, 4);
-    answered((i64[]){m, refusal(5, 0), size, size}, 4);
-}
-
 static void stacks(void)
 {
     for (size_t i = 0; i < MOST; i++)
         stack_y[i] = random_sample(&state, 1);
-    sheet_of(MOST);
-    on_stack(LARGE_STACK, sheet_calls);
-    sheet_answered();
+    paper_line_long(stack_y, MOST, 50, &stack_line);
+    i64 m = (i64)stack_line.n, size = (i64)paper_sheet(sheet, stack_y, MOST, 50, &stack_line);
+    on_stack(SHEET_STACK, sheet_calls);
+    answered((i64[]){m, refusal(5, 0), size, size}, 4);
     for (size_t s = 0; s < stack_line.n; s++) {
         stack_records[s].length = stack_line.length[s];
         stack_records[s].total = stack_line.total[s];
     }
-    i64 m = (i64)stack_line.n;
     on_stack(LIST_STACK, list_calls);
-    answered((i64[]){m, MOST, 0, 0, m, 0, 32 + 4 * MOST + 12 * m}, 7);
-    /* one minute will do, and does not take long: what is set aside is the same for all small sheets */
-    sheet_of(1);
-    size_t bytes = fall(sheet_calls);
-    sheet_answered();
-    printf("stack of small sheets %zu ", bytes);
-    if (bytes > SMALL_STACK) {
-        printf("is more than %d\n", SMALL_STACK);
-        exit(1);
-    }
-    sheet_of(SMALL);
-    on_stack(SMALL_STACK, sheet_calls);
-    sheet_answered();
+    answered((i64[]){m, MOST, 0, 0, m, 0, size}, 7);
 }
 
 int main(int argc, char **argv)

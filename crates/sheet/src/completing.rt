@@ -19,14 +19,14 @@ use super::writer;
 use denoise::Checked;
 use denoise::Drawn;
 
-// With a header in order: a small sheet in little memory.
+// With a header in order: a sheet of up to a day in little memory.
 pub(crate) fn complete_fields(sheet: &[u8], f: Fields, out: &mut [u8]) -> Written
     requires { ⌜ InOrder (now sheet) ⌝ }
     requires { ⌜ f ≡ fields (now sheet) ⌝ }
     ensures { λ r. ⌜ written r ≡ completeOf (now (sheet .entry)) (now (out .entry)) ⌝ }
     ensures { λ r. ⌜ now (out .exit) ≡ completedAfter (now (sheet .entry)) (now (out .entry)) ⌝ }
 {
-    if f.minutes <= 1024 {
+    if f.minutes <= 1440 {
         return complete_small(sheet, f, out);
     }
     complete_large(sheet, f, out)
@@ -35,13 +35,13 @@ pub(crate) fn complete_fields(sheet: &[u8], f: Fields, out: &mut [u8]) -> Writte
 fn complete_small(sheet: &[u8], f: Fields, out: &mut [u8]) -> Written
     requires { ⌜ InOrder (now sheet) ⌝ }
     requires { ⌜ f ≡ fields (now sheet) ⌝ }
-    requires { ⌜ f .minutes ≤ 1024 ⌝ }
+    requires { ⌜ f .minutes ≤ 1440 ⌝ }
     ensures { λ r. ⌜ written r ≡ completeOf (now (sheet .entry)) (now (out .entry)) ⌝ }
     ensures { λ r. ⌜ now (out .exit) ≡ completedAfter (now (sheet .entry)) (now (out .entry)) ⌝ }
 {
-    let mut ys = [0i32; 1024];
-    let mut ns = [0u32; 1024];
-    let mut ts = [0i64; 1024];
+    let mut ys = [0i32; 1440];
+    let mut ns = [0u32; 1440];
+    let mut ts = [0i64; 1440];
     complete_lists(sheet, f, out, &mut ys, &mut ns, &mut ts)
 }
 

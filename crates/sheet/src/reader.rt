@@ -12,7 +12,7 @@ use super::lists;
 use super::loading;
 use denoise::Checked;
 
-// With a header in order: a small sheet in little memory.
+// With a header in order: a sheet of up to a day in little memory.
 pub(crate) fn read_fields(
     sheet: &[u8],
     f: Fields,
@@ -27,7 +27,7 @@ pub(crate) fn read_fields(
     ensures { λ r. ⌜ now (lengths .exit) ≡ lengthsAfter (now (sheet .entry)) (now (samples .entry)) (now (lengths .entry)) (now (totals .entry)) ⌝ }
     ensures { λ r. ⌜ now (totals .exit) ≡ totalsAfter (now (sheet .entry)) (now (samples .entry)) (now (lengths .entry)) (now (totals .entry)) ⌝ }
 {
-    if f.minutes <= 1024 {
+    if f.minutes <= 1440 {
         return read_small(sheet, f, samples, lengths, totals);
     }
     read_large(sheet, f, samples, lengths, totals)
@@ -42,15 +42,15 @@ fn read_small(
 ) -> Reading
     requires { ⌜ InOrder (now sheet) ⌝ }
     requires { ⌜ f ≡ fields (now sheet) ⌝ }
-    requires { ⌜ f .minutes ≤ 1024 ⌝ }
+    requires { ⌜ f .minutes ≤ 1440 ⌝ }
     ensures { λ r. ⌜ headed r ≡ readOf (now (sheet .entry)) (now (samples .entry)) (now (lengths .entry)) (now (totals .entry)) ⌝ }
     ensures { λ r. ⌜ now (samples .exit) ≡ samplesAfter (now (sheet .entry)) (now (samples .entry)) (now (lengths .entry)) (now (totals .entry)) ⌝ }
     ensures { λ r. ⌜ now (lengths .exit) ≡ lengthsAfter (now (sheet .entry)) (now (samples .entry)) (now (lengths .entry)) (now (totals .entry)) ⌝ }
     ensures { λ r. ⌜ now (totals .exit) ≡ totalsAfter (now (sheet .entry)) (now (samples .entry)) (now (lengths .entry)) (now (totals .entry)) ⌝ }
 {
-    let mut ys = [0i32; 1024];
-    let mut ns = [0u32; 1024];
-    let mut ts = [0i64; 1024];
+    let mut ys = [0i32; 1440];
+    let mut ns = [0u32; 1440];
+    let mut ts = [0i64; 1440];
     read_lists(
         sheet,
         f,

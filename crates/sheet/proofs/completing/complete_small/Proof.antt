@@ -1,4 +1,4 @@
--- `sheet::completing::complete_small` meets its contract: `complete_lists` is lent arrays of 1,024 entries.
+-- `sheet::completing::complete_small` meets its contract: `complete_lists` is lent arrays of 1,440 entries.
 use borrow.Author.Needs.{needs}
 use Rattle.sheet.proofs.completing.complete_small.Statement.{statement}
 use Rattle.sheet.proofs.completing.complete_small.Tie as tie

@@ -1,4 +1,4 @@
--- `sheet::reader::read_small` meets its contract: `read_lists` is lent arrays of 1,024 entries.
+-- `sheet::reader::read_small` meets its contract: `read_lists` is lent arrays of 1,440 entries.
 use borrow.Author.Needs.{needs}
 use Rattle.sheet.proofs.reader.read_small.Statement.{statement}
 use Rattle.sheet.proofs.reader.read_small.Tie as tie
