@@ -43,7 +43,7 @@ pub enum Mark {
 
 // The segment number `index` of a line of n minutes, counted from 1: 1, 2, 6, 7 and 8 for the line, then 13 where it has no such segment.
 pub fn segment_of(n: usize, lengths: &[u32], totals: &[i64], index: usize) -> Piece
-    ensures { λ r. ⌜ piece r ≡ segmentOf n (now (lengths .entry)) (now (totals .entry)) index ⌝ }
+    ensures answer { λ r. ⌜ piece r ≡ segmentOf n (now (lengths .entry)) (now (totals .entry)) index ⌝ }
 {
     match denoise::shape(n, lengths, totals) {
         Checked::Passed => find_segment(lengths, totals, index),
@@ -53,7 +53,7 @@ pub fn segment_of(n: usize, lengths: &[u32], totals: &[i64], index: usize) -> Pi
 
 // The mark of a minute of a line of n minutes: 1, 2, 6, 7 and 8 for the line, then 13 where it has no such minute.
 pub fn mark_of(n: usize, lengths: &[u32], totals: &[i64], minute: usize) -> Mark
-    ensures { λ r. ⌜ marked r ≡ markOf n (now (lengths .entry)) (now (totals .entry)) minute ⌝ }
+    ensures answer { λ r. ⌜ marked r ≡ markOf n (now (lengths .entry)) (now (totals .entry)) minute ⌝ }
 {
     match denoise::shape(n, lengths, totals) {
         Checked::Passed => find_mark(lengths, totals, minute),
@@ -71,10 +71,10 @@ pub fn segments(
     lasts: &mut [u32],
     levels: &mut [f64],
 ) -> Filled
-    ensures { λ r. ⌜ filled r ≡ segmentsOf n (now (lengths .entry)) (now (totals .entry)) (now (firsts .entry)) (now (lasts .entry)) (now (levels .entry)) ⌝ }
-    ensures { λ _. ⌜ now (firsts .exit) ≡ firstsOf n (now (lengths .entry)) (now (totals .entry)) (now (firsts .entry)) (now (lasts .entry)) (now (levels .entry)) ⌝ }
-    ensures { λ _. ⌜ now (lasts .exit) ≡ lastsOf n (now (lengths .entry)) (now (totals .entry)) (now (firsts .entry)) (now (lasts .entry)) (now (levels .entry)) ⌝ }
-    ensures { λ _. ⌜ now (levels .exit) ≡ levelsOf n (now (lengths .entry)) (now (totals .entry)) (now (firsts .entry)) (now (lasts .entry)) (now (levels .entry)) ⌝ }
+    ensures answer { λ r. ⌜ filled r ≡ segmentsOf n (now (lengths .entry)) (now (totals .entry)) (now (firsts .entry)) (now (lasts .entry)) (now (levels .entry)) ⌝ }
+    ensures firsts { λ _. ⌜ now (firsts .exit) ≡ firstsOf n (now (lengths .entry)) (now (totals .entry)) (now (firsts .entry)) (now (lasts .entry)) (now (levels .entry)) ⌝ }
+    ensures lasts { λ _. ⌜ now (lasts .exit) ≡ lastsOf n (now (lengths .entry)) (now (totals .entry)) (now (firsts .entry)) (now (lasts .entry)) (now (levels .entry)) ⌝ }
+    ensures levels { λ _. ⌜ now (levels .exit) ≡ levelsOf n (now (lengths .entry)) (now (totals .entry)) (now (firsts .entry)) (now (lasts .entry)) (now (levels .entry)) ⌝ }
 {
     if let Checked::Refused(number, place) = denoise::shape(n, lengths, totals) {
         return Filled::Refused(number, place);

@@ -38,7 +38,7 @@ impl Level {
 
     // 6 for a length of 0 or above MINUTES, then 7 for a total beyond length * TENTHS.
     pub fn new(length: u32, total: i64) -> Made
-        ensures { λ r. ⌜ made r ≡ makeOf length total ⌝ }
+        ensures answer { λ r. ⌜ made r ≡ makeOf length total ⌝ }
     {
         let a = Level { length, total };
         if bad_length(a) {
@@ -53,7 +53,7 @@ impl Level {
     // By the sign of the difference of the two cross products. Levels that are made up are refused as `new` would, each number tested
     // on this level, then on the other.
     pub fn compare(self, other: Level) -> Compared
-        ensures { λ r. ⌜ compared r ≡ compareOf self other ⌝ }
+        ensures answer { λ r. ⌜ compared r ≡ compareOf self other ⌝ }
     {
         if bad_length(self) {
             return Compared::Refused(6, 0);
@@ -72,7 +72,7 @@ impl Level {
 
     // The f64 nearest to the level, ties to even.
     pub fn plot(self) -> Plotted
-        ensures { λ r. ⌜ plotted r ≡ plotOf self ⌝ }
+        ensures answer { λ r. ⌜ plotted r ≡ plotOf self ⌝ }
         ensures nearest { λ r. ⌜ NearestPlot self r ⌝ }
     {
         if bad_length(self) {

@@ -30,10 +30,10 @@ fn put_digits(out: &mut [u8], at: usize, n: u64) -> usize
 
 // n in decimal, from the start of `out`. The result is the number of its digits; later bytes stay.
 pub fn decimal(n: u64, out: &mut [u8; 20]) -> usize
-    ensures { λ r. ⌜ r ≡ length (decimal n) ⌝ }
-    ensures { λ r. ⌜ r ≤ 20 ⌝ }
-    ensures { λ r. ⌜ r ≤ length (now (out .exit)) ⌝ }
-    ensures { λ _. ⌜ now (out .exit) ≡ overwrite (now (out .entry)) 0 (decimal n) ⌝ }
+    ensures count { λ r. ⌜ r ≡ length (decimal n) ⌝ }
+    ensures most { λ r. ⌜ r ≤ 20 ⌝ }
+    ensures fits { λ r. ⌜ r ≤ length (now (out .exit)) ⌝ }
+    ensures out { λ _. ⌜ now (out .exit) ≡ overwrite (now (out .entry)) 0 (decimal n) ⌝ }
 {
     put_digits(out, 0, n)
 }
@@ -47,10 +47,10 @@ fn magnitude(x: i64) -> u64
 
 // x in decimal, with its sign where it is negative, from the start of `out`. The result is the number of its characters; later bytes stay.
 pub fn signed_decimal(x: i64, out: &mut [u8; 20]) -> usize
-    ensures { λ r. ⌜ r ≡ length (signedDecimal x) ⌝ }
-    ensures { λ r. ⌜ r ≤ 20 ⌝ }
-    ensures { λ r. ⌜ r ≤ length (now (out .exit)) ⌝ }
-    ensures { λ _. ⌜ now (out .exit) ≡ overwrite (now (out .entry)) 0 (signedDecimal x) ⌝ }
+    ensures count { λ r. ⌜ r ≡ length (signedDecimal x) ⌝ }
+    ensures most { λ r. ⌜ r ≤ 20 ⌝ }
+    ensures fits { λ r. ⌜ r ≤ length (now (out .exit)) ⌝ }
+    ensures out { λ _. ⌜ now (out .exit) ≡ overwrite (now (out .entry)) 0 (signedDecimal x) ⌝ }
 {
     let size = magnitude(x);
     if x < 0 {

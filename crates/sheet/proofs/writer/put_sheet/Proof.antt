@@ -11,7 +11,9 @@ use Rattle.sheet.proofs.writer.put_sheet.Statement.{statement}
 use Rattle.sheet.proofs.writer.put_sheet.Tie as tie
 
 returns : tie.Need-returns
-returns c = (rw (lt-ltb _ _ (c .if1 .taken)), refl)
+returns c =
+    let g = c .before .before .before .args in
+    (rw (lt-ltb (length (g .out .now)) (size (length (g .samples .now)) (length (g .lengths .now))) (c .if1 .taken)), refl)
 
 returns-2 : tie.Need-returns-2
 unfolding refill
