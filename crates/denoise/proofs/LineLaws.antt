@@ -72,15 +72,15 @@ module _ (ys : List ℤ) (L : ℕ) (ns : List ℕ) (ts : List ℤ) (m : ℕ) (e 
 
 -- what a call promises of its answer and of the two lists, from what they are
 module _ (ys : List ℤ) (L : ℕ) (ns : List ℕ) (ts : List ℤ) (a : Answer ℕ) (ns′ : List ℕ) (ts′ : List ℤ) where
-  abbrev pub Told : Type 0
+  abbrev Told : Type 0
   Told = (a ≡ lineOf ys L ns ts) × ((ns′ ≡ lengthsOf ys L ns ts) × (ts′ ≡ totalsOf ys L ns ts))
 
-  abbrev pub Best : Type 0
-  Best =
+  abbrev Promises : Type 0
+  Promises =
       when-given a (λ m. Meets ys L (segments (take m ns′) (take m ts′)))
       × (when-given a (λ m. Only ys L (take m ns′) (take m ts′)) × when-given a (λ m. Least ys L (segments (take m ns′) (take m ts′))))
 
-  pub promised : Told → (a ≡ lineOf ys L ns ts) × ((ns′ ≡ lengthsOf ys L ns ts) × ((ts′ ≡ totalsOf ys L ns ts) × Best))
+  pub promised : Told → (a ≡ lineOf ys L ns ts) × ((ns′ ≡ lengthsOf ys L ns ts) × ((ts′ ≡ totalsOf ys L ns ts) × Promises))
   promised t = (t .0, (t .1 .0, (t .1 .1, rw (t .0, t .1 .0, t .1 .1) (best (lineOf ys L ns ts) refl))))
     where
       best : (o : Answer ℕ) → lineOf ys L ns ts ≡ o →

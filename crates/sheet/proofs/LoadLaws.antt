@@ -1,5 +1,5 @@
 -- The lists that are decoded from a sheet begin with its own: what the reader copies from them and what the completer writes is what their definitions say.
-use mathlib.Core.Path.{_≡_, sym, ap, ap₂, _∙_}
+use mathlib.Core.Path.{_≡_, sym, ap₂, _∙_}
 use mathlib.Core.List.{List, _++_}
 use Prim.Native.Nat.{ℕ}
 use lib.ListN.{length, take, drop, length-map}

@@ -1,7 +1,7 @@
 -- Completing: the reader's order, its 5 being for the output; the same sheet with its line (paper 01, "The sheet").
 use mathlib.Core.Path.{_≡_}
 use mathlib.Core.List.{List}
-use Prim.Native.Nat.{ℕ, _≤_, _<_}
+use Prim.Native.Nat.{ℕ, _≤_}
 use lib.ListN.{length, take}
 use lib.IntN.{ℤ, pos}
 use Rattle.optimality.specs.Segments.{Segment}
@@ -9,7 +9,7 @@ use Rattle.optimality.specs.Plain.{lens}
 use Rattle.optimality.specs.Plain as Plain
 use Rattle.optimality.specs.Machine.{plain-line}
 use Rattle.level.specs.Answer.{Answer, given}
-use Rattle.denoise.specs.Limits.{in-limits, refill, on-success}
+use Rattle.denoise.specs.Limits.{refill, on-success}
 use Rattle.sheet.specs.Format.{smoothing, samples, size, sheet-bytes}
 use Rattle.sheet.specs.Read.{accepted}
 use Rattle.sheet.specs.Write.{room}
@@ -21,9 +21,6 @@ module _ (ys : List ℤ) (L : ℕ) where
 
   abbrev pub finishOf : List ℕ → Answer ℕ
   finishOf out = room out (size (length ys) (length (plain-line (pos L) ys)))
-
-  abbrev pub finishedAfter : List ℕ → List ℕ
-  finishedAfter out = on-success (finishOf out) (refill completed out) out
 
 module _ (s out : List ℕ) where
   abbrev pub completeOf : Answer ℕ

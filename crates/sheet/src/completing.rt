@@ -19,20 +19,8 @@ use super::writer;
 use denoise::Checked;
 use denoise::Drawn;
 
-// With a header in order: a sheet of up to a day in little memory.
-pub(crate) fn complete_fields(sheet: &[u8], f: Fields, out: &mut [u8]) -> Written
-    requires { ⌜ InOrder (now sheet) ⌝ }
-    requires { ⌜ f ≡ fields (now sheet) ⌝ }
-    ensures { λ r. ⌜ written r ≡ completeOf (now (sheet .entry)) (now (out .entry)) ⌝ }
-    ensures { λ r. ⌜ now (out .exit) ≡ completedAfter (now (sheet .entry)) (now (out .entry)) ⌝ }
-{
-    if f.minutes <= 1440 {
-        return complete_small(sheet, f, out);
-    }
-    complete_large(sheet, f, out)
-}
-
-fn complete_small(sheet: &[u8], f: Fields, out: &mut [u8]) -> Written
+// With a header in order, of a sheet of up to a day.
+pub(crate) fn complete_small(sheet: &[u8], f: Fields, out: &mut [u8]) -> Written
     requires { ⌜ InOrder (now sheet) ⌝ }
     requires { ⌜ f ≡ fields (now sheet) ⌝ }
     requires { ⌜ f .minutes ≤ 1440 ⌝ }
@@ -45,7 +33,8 @@ fn complete_small(sheet: &[u8], f: Fields, out: &mut [u8]) -> Written
     complete_lists(sheet, f, out, &mut ys, &mut ns, &mut ts)
 }
 
-fn complete_large(sheet: &[u8], f: Fields, out: &mut [u8]) -> Written
+// Of a longer one.
+pub(crate) fn complete_large(sheet: &[u8], f: Fields, out: &mut [u8]) -> Written
     requires { ⌜ InOrder (now sheet) ⌝ }
     requires { ⌜ f ≡ fields (now sheet) ⌝ }
     ensures { λ r. ⌜ written r ≡ completeOf (now (sheet .entry)) (now (out .entry)) ⌝ }

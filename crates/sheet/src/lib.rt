@@ -21,6 +21,9 @@ mod writer;
 
 use denoise::Checked;
 
+// The minutes of a day: a sheet of no more is read and completed in little memory.
+const DAY: u32 = 1_440;
+
 // What a sheet's header says: N, M and the smoothing L.
 pub struct Fields {
     pub minutes: u32,
@@ -50,7 +53,12 @@ pub fn read(sheet: &[u8], samples: &mut [i32], lengths: &mut [u32], totals: &mut
 {
     match header::read_header(sheet) {
         Reading::Refused(number, place) => Reading::Refused(number, place),
-        Reading::Valid(f) => reader::read_fields(sheet, f, samples, lengths, totals),
+        Reading::Valid(f) => {
+            if f.minutes <= DAY {
+                return reader::read_small(sheet, f, samples, lengths, totals);
+            }
+            reader::read_large(sheet, f, samples, lengths, totals)
+        }
     }
 }
 
@@ -82,6 +90,11 @@ pub fn complete(sheet: &[u8], out: &mut [u8]) -> Written
 {
     match header::read_header(sheet) {
         Reading::Refused(number, place) => Written::Refused(number, place),
-        Reading::Valid(f) => completing::complete_fields(sheet, f, out),
+        Reading::Valid(f) => {
+            if f.minutes <= DAY {
+                return completing::complete_small(sheet, f, out);
+            }
+            completing::complete_large(sheet, f, out)
+        }
     }
 }

@@ -12,28 +12,8 @@ use super::lists;
 use super::loading;
 use denoise::Checked;
 
-// With a header in order: a sheet of up to a day in little memory.
-pub(crate) fn read_fields(
-    sheet: &[u8],
-    f: Fields,
-    samples: &mut [i32],
-    lengths: &mut [u32],
-    totals: &mut [i64],
-) -> Reading
-    requires { ⌜ InOrder (now sheet) ⌝ }
-    requires { ⌜ f ≡ fields (now sheet) ⌝ }
-    ensures { λ r. ⌜ headed r ≡ readOf (now (sheet .entry)) (now (samples .entry)) (now (lengths .entry)) (now (totals .entry)) ⌝ }
-    ensures { λ r. ⌜ now (samples .exit) ≡ samplesAfter (now (sheet .entry)) (now (samples .entry)) (now (lengths .entry)) (now (totals .entry)) ⌝ }
-    ensures { λ r. ⌜ now (lengths .exit) ≡ lengthsAfter (now (sheet .entry)) (now (samples .entry)) (now (lengths .entry)) (now (totals .entry)) ⌝ }
-    ensures { λ r. ⌜ now (totals .exit) ≡ totalsAfter (now (sheet .entry)) (now (samples .entry)) (now (lengths .entry)) (now (totals .entry)) ⌝ }
-{
-    if f.minutes <= 1440 {
-        return read_small(sheet, f, samples, lengths, totals);
-    }
-    read_large(sheet, f, samples, lengths, totals)
-}
-
-fn read_small(
+// With a header in order, of a sheet of up to a day.
+pub(crate) fn read_small(
     sheet: &[u8],
     f: Fields,
     samples: &mut [i32],
@@ -63,7 +43,8 @@ fn read_small(
     )
 }
 
-fn read_large(
+// Of a longer one.
+pub(crate) fn read_large(
     sheet: &[u8],
     f: Fields,
     samples: &mut [i32],

@@ -3,13 +3,11 @@ use mathlib.Core.Path.{_≡_, sym, ap, _∙_}
 use Prim.Native.Nat.{ℕ}
 use native.Mathlib.Omega.{arith}
 use borrow.Author.Needs.{needs}
-use borrow.Author.Tests.{lt-ltb, le-ltb}
 use lib.ListN.{length}
 use Rattle.level.specs.Answer.{Answer, refused, given}
-use Rattle.denoise.specs.Limits.{in-limits, refill}
+use Rattle.denoise.specs.Limits.{in-limits}
 use Rattle.denoise.specs.Check.{checked}
 use Rattle.sheet.specs.Format.{size}
-use Rattle.sheet.specs.SheetLaws.{length-sheet-bytes}
 use Rattle.sheet.specs.Read.{filed}
 use Rattle.sheet.specs.Write.{room, writeOf}
 use Rattle.sheet.proofs.Chains.{Alike, stopped, passed, lists-alike}

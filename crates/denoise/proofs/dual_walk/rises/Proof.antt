@@ -2,7 +2,7 @@
 use borrow.Author.Needs.{needs}
 use mathlib.Core.Path.{_≡_, ap₂}
 use lib.Signed.{ltZ}
-use lib.IntN.{pos, _*ℤ_}
+use lib.IntN.{_*ℤ_}
 use mir.Syntax.{w64}
 use mir.Val.{toZ, ofZ}
 use Rattle.integers.specs.Bounds.{cleaning, fit, clean}

@@ -1,18 +1,16 @@
 -- `sheet::completing::complete_lists` meets its contract: the line of the sheet's own lists, and 5 or the sheet with it.
-use mathlib.Core.Path.{_≡_, sym, ap, _∙_, subst}
+use mathlib.Core.Path.{sym, ap, _∙_, subst}
 use mathlib.Core.List.{List}
 use native.Mathlib.Omega.{arith}
-use Prim.Native.Nat.{ℕ, _≤_}
+use Prim.Native.Nat.{_≤_}
 use borrow.Author.Needs.{needs}
 use lib.IntN.{ℤ, pos}
-use lib.ListN.{length, take, length-map}
+use lib.ListN.{take}
 use lib.Seq.{length-take-le}
 use Rattle.optimality.specs.Segments.{Segment}
 use Rattle.optimality.specs.Machine.{plain-line}
-use Rattle.level.specs.Answer.{Answer, given, when-given}
-use Rattle.denoise.specs.Limits.{in-limits}
+use Rattle.level.specs.Answer.{given, when-given}
 use Rattle.denoise.specs.Line.{drawn}
-use Rattle.sheet.specs.Read.{filed}
 use Rattle.sheet.specs.Complete.{Has}
 use Rattle.sheet.proofs.LoadLaws.{samples-loaded, lengths-loaded, totals-loaded, line-refused, completes}
 use Rattle.sheet.proofs.completing.complete_lists.Statement.{statement}

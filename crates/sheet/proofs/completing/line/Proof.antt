@@ -1,5 +1,5 @@
 -- `sheet::completing::line` meets its contract: the line that was filed and passes the check, or the one that is drawn.
-use mathlib.Core.Path.{_≡_, sym, ap, _∙_}
+use mathlib.Core.Path.{sym, ap, _∙_}
 use native.Mathlib.Omega.{arith}
 use borrow.Author.Needs.{needs}
 use lib.ListN.{take}

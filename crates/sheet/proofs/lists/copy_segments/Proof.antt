@@ -1,5 +1,5 @@
 -- `sheet::lists::copy_segments` meets its contract: after i turns the first i segments stand in the two lists.
-use mathlib.Core.Path.{_≡_, refl, _∙_}
+use mathlib.Core.Path.{refl}
 use Prim.Native.Nat.{_-_, _≤_}
 use native.Mathlib.Omega.{arith}
 use borrow.Author.Needs.{needs, sfits-of}

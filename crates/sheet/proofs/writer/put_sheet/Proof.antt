@@ -1,6 +1,5 @@
 -- `sheet::writer::put_sheet` meets its contract: 5, or the sheet's bytes.
 use mathlib.Core.Path.{refl}
-use Prim.Native.Nat.{ℕ}
 use borrow.Author.Needs.{needs}
 use borrow.Author.Tests.{lt-ltb, le-ltb}
 use lib.ListN.{length}
