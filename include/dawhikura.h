@@ -1,10 +1,11 @@
-/* The level line of a month of mail delay, from C. Link target/staticlib/libconsole.a (rt staticlib console).
+/* The level line of a month of mail delay, from C. Link target/staticlib/libconsole.a (rt staticlib console); series_check_segments alone is in
+ * target/staticlib/librecords.a (rt staticlib records).
  *
  * One duty is on the caller's side: each area is as long as the count beside it says, and an area that is written lies apart from the others.
  * Nothing else need be true of what is handed over. A call that returns a refusal leaves every area as it was; one that does not keeps the entries
  * and bytes past those that it fills. No call allocates or keeps anything for later; sheet_read and sheet_complete need 1 MiB and 16 KiB of stack for
  * the sheet's lists, the others under 16 KiB. Drawing a line takes some 8 ns a minute (README, "Speed"), but is quadratic on some series: a ramp of
- * 65,536 minutes took up to six seconds. Checking, reading and writing are linear.
+ * 65,536 minutes took up to seven seconds. Checking, reading and writing are linear.
  *
  * A result below 0 is a refusal: minus (256 times the place, plus the number), so that for r < 0 the number is -r % 256 and the place -r / 256. A place is
  * at most 65,536, or at most the count of segments handed over; in a list of more than 2^54 segments a place above 2^54 is told as 2^54.
@@ -44,7 +45,7 @@ int64_t series_check(const int32_t *samples, size_t minutes, uint64_t smoothing,
 /* A segment of a line, as a record. */
 typedef struct { uint32_t length; int64_t total; } dawhikura_segment;
 
-/* The same check, over a run of records. */
+/* The same check, over a run of records. In librecords.a. */
 int64_t series_check_segments(const int32_t *samples, size_t minutes, uint64_t smoothing, const dawhikura_segment *segments, size_t segments_len);
 
 /* The chart of a line of so many minutes: the first minute, the last minute and the plotted level of each segment, in the first entries of the three

@@ -7,12 +7,14 @@ use native.Mathlib.Omega.{arith}
 use borrow.Author.Tests.{ltb-false}
 use lib.ListN.{length, take}
 use lib.Seq.{take-at}
-use lib.IntN.{ℤ}
+use lib.IntN.{ℤ, pos}
+use Rattle.optimality.specs.Series.{plain}
+use Rattle.optimality.specs.Segments.{IsLine}
 use Rattle.optimality.specs.Plain.{segments}
 use Rattle.level.specs.Answer.{Answer, refused, given, when-given}
 use Rattle.denoise.specs.Limits.{in-limits, refill, on-success}
 use Rattle.denoise.specs.Optimality.{Meets}
-use Rattle.denoise.proofs.OptimalityLaws.{line-meets}
+use Rattle.denoise.proofs.OptimalityLaws.{line-meets, meets-line}
 use Rattle.denoise.proofs.Refusals.{never, if-past}
 use Rattle.sheet.specs.Answer.{fields}
 use Rattle.sheet.specs.Format.{minutes, segment-count, smoothing, samples, lengths, totals, read-sample, read-length, read-total}
@@ -91,6 +93,11 @@ module _ (s : List ℕ) (ys : List ℤ) (ns : List ℕ) (ts : List ℤ) where
         Meets (take (f .minutes) (samplesAfter s ys ns ts)) (f .smoothing)
         (segments (take (f .segments) (lengthsAfter s ys ns ts)) (take (f .segments) (totalsAfter s ys ns ts)))
     meets m = rw (samples-read, lengths-read, totals-read, ap (λ f. f .smoothing) (found .header)) (own-line s passes (rw (found .header) at m))
+
+    pub line-read : 0 < f .segments →
+        IsLine (pos (f .smoothing)) (pos 0) (pos 0) (plain (take (f .minutes) (samplesAfter s ys ns ts)))
+        (segments (take (f .segments) (lengthsAfter s ys ns ts)) (take (f .segments) (totalsAfter s ys ns ts)))
+    line-read m = meets-line _ _ _ (meets m)
 
   -- what a call promises of its answer and of the lists, from what they are
   abbrev Told : Answer Fields → List ℤ → List ℕ → List ℤ → Type 0
