@@ -17,16 +17,16 @@ use Rattle.level.specs.Order.{cross}
 use Rattle.level.specs.Plot.{NearestF64}
 use Rattle.level.proofs.Closest.{le-or-lt}
 use Rattle.level.proofs.Nearest.{nearest-f64}
-use Rattle.denoise.specs.Shape.{sum}
-use Rattle.denoise.specs.Check.{shapeOf}
-use Rattle.denoise.proofs.Refusals.{never}
+use Rattle.chart.specs.Drawable.{sum}
+use Rattle.checker.specs.Check.{shapeOf}
+use Rattle.series.proofs.Refusals.{never}
 use Rattle.chart.specs.Chart.{Shown, plain, rise, fall, step, segment-at, mark-at, or-13, segmentOf, markOf}
 use Rattle.chart.specs.Drawable.{nth}
 use Rattle.chart.specs.Whole.{after, segments-from}
 use Rattle.chart.specs.declared.ChartSegment.{ChartSegment}
 use Rattle.chart.proofs.Sums.{sum-next}
 use Rattle.chart.proofs.Found.{segment-found, segment-lacks, mark-0, mark-inside, mark-end, skip, held}
-use Rattle.chart.proofs.Passed.{Passed, passed, shaped-is}
+use Rattle.chart.proofs.DrawableLaws.{Passed, passed, shaped-is}
 
 module _ (n : ℕ) (ns : List ℕ) (ts : List ℤ) (ok : shapeOf n ns ts ≡ given tt) where
   line : Passed n ns ts

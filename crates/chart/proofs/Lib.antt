@@ -1,7 +1,7 @@
 -- What the proofs of `chart` rest on, and the laws of its definitions.
 pub mod Sums
 pub mod Found
-pub mod Passed
+pub mod DrawableLaws
 pub mod Listed
 pub mod Laws
 pub mod PlaceLaws

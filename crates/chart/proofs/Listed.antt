@@ -8,8 +8,8 @@ use lib.ListN.{length, set, drop, length-set, length-map, drop-of-length-le}
 use lib.Seq.{drop-cons, sets}
 use lib.IntN.{ℤ, pos}
 use Rattle.level.specs.declared.Level.{Level}
-use Rattle.denoise.specs.Limits.{refill}
-use Rattle.denoise.proofs.Refill.{sets-refill}
+use Rattle.series.specs.Answer.{refill}
+use Rattle.series.proofs.AnswerLaws.{sets-refill}
 use Rattle.chart.specs.Drawable.{nth}
 use Rattle.chart.specs.Whole.{after, segments-from, parts}
 use Rattle.chart.specs.declared.ChartSegment.{ChartSegment}

@@ -8,8 +8,9 @@ use lib.ListN.{length}
 use lib.IntN.{ℤ}
 use lib.Ieee.{Float}
 use Rattle.level.specs.Answer.{Answer, refuse-if}
-use Rattle.denoise.specs.Shape.{well-shaped}
-use Rattle.denoise.proofs.PlaceLaws.{Placed, fine, placed, if-placed, shape-placed}
+use Rattle.checker.specs.Shape.{well-shaped}
+use Rattle.series.proofs.PlaceLaws.{Placed, unrefused, placed, if-placed}
+use Rattle.checker.proofs.PlaceLaws.{shape-placed}
 use Rattle.chart.specs.Chart.{or-13, mark-at, markOf}
 use Rattle.chart.specs.Whole.{segmentsOf}
 
@@ -22,7 +23,7 @@ module _ (n : ℕ) (ns : List ℕ) (ts : List ℤ) {most : ℕ} (h : length ns �
       if-placed (omega arith) (ltb 65536 n) (omega arith) (λ _. shape-placed n ns ts h p))
 
   found-placed : {A : Type 0} (o : Option A) → Placed most (or-13 o)
-  found-placed (some x) = fine
+  found-placed (some x) = unrefused
   found-placed none = placed {number = 13} {place = 0} (omega arith) (omega arith)
 
   pub mark-placed : (minute : ℕ) → Placed most (markOf n ns ts minute)
@@ -33,4 +34,4 @@ module _ (n : ℕ) (ns : List ℕ) (ts : List ℤ) {most : ℕ} (h : length ns �
       line-placed
       (if-placed (omega arith) (ltb (length firsts) (length ns)) (omega arith) (λ _.
       if-placed (omega arith) (ltb (length lasts) (length ns)) (omega arith) (λ _.
-      if-placed (omega arith) (ltb (length levels) (length ns)) (omega arith) (λ _. fine))))
+      if-placed (omega arith) (ltb (length levels) (length ns)) (omega arith) (λ _. unrefused))))

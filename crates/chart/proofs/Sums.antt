@@ -4,7 +4,7 @@ use mathlib.Core.List.{List, [], _∷_}
 use native.Mathlib.Omega.{arith}
 use Prim.Native.Nat.{ℕ, zero, suc, _+_, _<_, _≤_}
 use lib.ListN.{length, getD, take}
-use Rattle.denoise.specs.Shape.{sum}
+use Rattle.chart.specs.Drawable.{sum}
 
 pub sum-next : (ns : List ℕ) (k : ℕ) → k < length ns → sum (take (suc k) ns) ≡ sum (take k ns) + getD ns k 0
 unfolding sum

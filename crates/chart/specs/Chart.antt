@@ -1,4 +1,4 @@
--- The chart of a line (paper 01, "The chart"): refusals 1, 2, 6, 7, 8 as denoise's shape has them, then 13.
+-- The chart of a line (paper 01, "The chart"): refusals 1, 2, 6, 7, 8 as the shape of a line has them, then 13.
 use mathlib.Core.Bool.{Bool, true, false, cond}
 use mathlib.Core.List.{List, [], _∷_}
 use mathlib.Core.Option.{Option, none, some}
@@ -11,7 +11,7 @@ use Rattle.level.specs.Answer.{Answer, refused, given, refuse-if}
 use Rattle.level.specs.Order.{cross}
 use Rattle.level.specs.Plot.{nearestTo}
 use Rattle.level.specs.declared.Level.{Level}
-use Rattle.denoise.specs.Shape.{well-shaped}
+use Rattle.checker.specs.Shape.{well-shaped}
 use Rattle.chart.specs.declared.ChartSegment.{ChartSegment}
 use Rattle.chart.specs.declared.Piece.{Piece}
 use Rattle.chart.specs.declared.Piece.the-variants as Piece

@@ -1,13 +1,16 @@
--- What the functions that draw a line lean on: each line that passes the shape check has it (Passed.antt of proofs/).
-use mathlib.Core.List.{List}
+-- What the functions that draw a line lean on: each line that passes the shape check has it (DrawableLaws.antt of proofs/).
+use mathlib.Core.List.{List, [], _∷_}
 use mathlib.Core.Path.{_≡_}
-use Prim.Native.Nat.{ℕ, _<_, _≤_}
+use Prim.Native.Nat.{ℕ, _+_, _<_, _≤_}
 use lib.ListN.{length, getD}
 use lib.IntN.{ℤ, pos}
 use Rattle.level.specs.Limits.{Valid}
 use Rattle.level.specs.declared.Level.{Level}
-use Rattle.denoise.specs.Shape.{sum}
 use Rattle.chart.specs.Chart.{level}
+
+unfoldable pub sum : List ℕ → ℕ
+sum [] = 0
+sum (n ∷ ns) = n + sum ns
 
 -- the level number k, counted from 0
 abbrev pub nth : List ℕ → List ℤ → ℕ → Level

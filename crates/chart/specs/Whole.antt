@@ -8,8 +8,8 @@ use lib.Ieee.{Float}
 use Rattle.level.specs.Answer.{Answer, given, refuse-if}
 use Rattle.level.specs.Plot.{nearestTo}
 use Rattle.level.specs.declared.Level.{Level}
-use Rattle.denoise.specs.Limits.{refill, on-success}
-use Rattle.denoise.specs.Shape.{well-shaped}
+use Rattle.series.specs.Answer.{refill, on-success}
+use Rattle.checker.specs.Shape.{well-shaped}
 use Rattle.chart.specs.Chart.{level}
 use Rattle.chart.specs.declared.ChartSegment.{ChartSegment}
 

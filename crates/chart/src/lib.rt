@@ -9,17 +9,15 @@ ghost use Rattle.level.specs.Answer.{given};
 ghost use Rattle.level.specs.Limits.{Valid};
 ghost use Rattle.level.specs.Order.{cross};
 ghost use Rattle.level.specs.Plot.{nearestTo};
-ghost use Rattle.denoise.specs.Limits.{refill};
-ghost use Rattle.denoise.specs.Dual.{filled};
-ghost use Rattle.denoise.specs.Shape.{sum};
+ghost use Rattle.series.specs.Answer.{refill, filled};
 ghost use Rattle.chart.specs.Chart.{piece, marked, segment-at, step, mark-at, or-13, segmentOf, markOf};
-ghost use Rattle.chart.specs.Drawable.{nth, Drawable};
+ghost use Rattle.chart.specs.Drawable.{sum, nth, Drawable};
 ghost use Rattle.chart.specs.Whole.{parts, segmentsOf, firstsOf, lastsOf, levelsOf};
-use denoise::Checked;
-use denoise::Filled;
 use level::Compared;
 use level::Level;
 use level::Plotted;
+use series::Checked;
+use series::Filled;
 
 // A segment's first minute, its last minute and its plotted level. Minutes are numbered from 1.
 pub struct ChartSegment {
@@ -45,7 +43,7 @@ pub enum Mark {
 pub fn segment_of(n: usize, lengths: &[u32], totals: &[i64], index: usize) -> Piece
     ensures answer { λ r. ⌜ piece r ≡ segmentOf n (now (lengths .entry)) (now (totals .entry)) index ⌝ }
 {
-    match denoise::shape(n, lengths, totals) {
+    match checker::shape(n, lengths, totals) {
         Checked::Passed => find_segment(lengths, totals, index),
         Checked::Refused(number, place) => Piece::Refused(number, place),
     }
@@ -55,7 +53,7 @@ pub fn segment_of(n: usize, lengths: &[u32], totals: &[i64], index: usize) -> Pi
 pub fn mark_of(n: usize, lengths: &[u32], totals: &[i64], minute: usize) -> Mark
     ensures answer { λ r. ⌜ marked r ≡ markOf n (now (lengths .entry)) (now (totals .entry)) minute ⌝ }
 {
-    match denoise::shape(n, lengths, totals) {
+    match checker::shape(n, lengths, totals) {
         Checked::Passed => find_mark(lengths, totals, minute),
         Checked::Refused(number, place) => Mark::Refused(number, place),
     }
@@ -76,7 +74,7 @@ pub fn segments(
     ensures lasts { λ _. ⌜ now (lasts .exit) ≡ lastsOf n (now (lengths .entry)) (now (totals .entry)) (now (firsts .entry)) (now (lasts .entry)) (now (levels .entry)) ⌝ }
     ensures levels { λ _. ⌜ now (levels .exit) ≡ levelsOf n (now (lengths .entry)) (now (totals .entry)) (now (firsts .entry)) (now (lasts .entry)) (now (levels .entry)) ⌝ }
 {
-    if let Checked::Refused(number, place) = denoise::shape(n, lengths, totals) {
+    if let Checked::Refused(number, place) = checker::shape(n, lengths, totals) {
         return Filled::Refused(number, place);
     }
     if firsts.len() < lengths.len() {

@@ -4,11 +4,11 @@
 
 use chart::Mark;
 use chart::Piece;
-use denoise::Filled;
 use printing::put;
 use printing::put_bits;
 use printing::put_refusal;
 use printing::put_unsigned;
+use series::Filled;
 
 mod lines;
 

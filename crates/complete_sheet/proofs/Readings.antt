@@ -8,13 +8,13 @@ use lib.ListN.{length, take, length-map}
 use lib.IntN.{ℤ, pos}
 use Rattle.optimality.specs.Machine.{plain-line}
 use Rattle.level.specs.Answer.{given}
-use Rattle.denoise.specs.Limits.{refill}
-use Rattle.denoise.proofs.Refill.{take-refill, length-refill}
+use Rattle.series.specs.Answer.{refill}
+use Rattle.series.proofs.AnswerLaws.{take-refill, length-refill}
 use Rattle.sheet.specs.Format.{minutes, segment-count, smoothing, samples, lengths, totals, read-sample, read-length, read-total}
 use Rattle.sheet.specs.ListLaws.{length-records}
 use Rattle.sheet.specs.Read.{readOf, samplesAfter, lengthsAfter, totalsAfter}
 use Rattle.sheet.specs.declared.Fields.{Fields}
-use Rattle.sheet.proofs.ReadLaws.{judgement, passes, found}
+use Rattle.sheet.proofs.ReadLaws.{own-lists, passes, found}
 use Rattle.sheet.proofs.ReadLaws as ReadLaws
 use Rattle.complete_sheet.specs.Ready.{Ready}
 
@@ -24,7 +24,7 @@ module _ (s : List ℕ) (ys : List ℤ) (ns : List ℕ) (ts : List ℤ) (f : Fie
 
   own-line : Ready (samples s) (smoothing s) (segment-count s) (refill (lengths s) ns) (refill (totals s) ts)
   own-line =
-      let j = judgement s (passes s ys ns ts f e) in
+      let j = own-lists s (passes s ys ns ts f e) in
       let g = found s ys ns ts f e in
       let N : length (samples s) ≡ minutes s = length-records 4 read-sample _ _ in
       let M : length (lengths s) ≡ segment-count s = length-records 12 read-length _ _ in

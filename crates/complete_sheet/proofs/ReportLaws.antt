@@ -14,15 +14,17 @@ use lib.IntN.{ℤ}
 use Rattle.optimality.specs.Segments as Segments
 use Rattle.optimality.specs.Plain.{segments, length-plain}
 use Rattle.level.specs.Answer.{Answer, refused, given, refuse-if}
+use Rattle.series.specs.Answer.{passing}
+use Rattle.series.proofs.Refusals.{passed, stopped}
 use Rattle.sheet.specs.Answer.{fields}
 use Rattle.sheet.specs.Format.{minutes, segment-count, smoothing, samples, lengths, totals, read-sample, read-length}
 use Rattle.sheet.specs.HeadLaws.{length-as-in-table}
 use Rattle.sheet.specs.ListLaws.{length-records}
 use Rattle.sheet.specs.Read.{accepted, readOf}
-use Rattle.sheet.specs.Complete.{completeOf, completedAfter, fine}
+use Rattle.sheet.specs.Complete.{completeOf, completedAfter}
 use Rattle.sheet.specs.declared.Fields.{Fields}
-use Rattle.sheet.proofs.Chains.{passed, stopped, accepted-alike}
-use Rattle.sheet.proofs.ReadLaws.{in-order, judgement}
+use Rattle.sheet.proofs.SheetRefusals.{accepted-alike}
+use Rattle.sheet.proofs.ReadLaws.{in-order, own-lists}
 use Rattle.sheet.proofs.CompleteLaws.{Completed}
 use Rattle.sheet.proofs.CompleteLaws as CompleteLaws
 use Rattle.complete_sheet.specs.Report.{too-long, line-text, line-shown, refusal, answer-text, no-samples, no-lengths, no-totals, reportOf}
@@ -37,15 +39,15 @@ module _ (s : List ℕ) where
   by-reading answer h e = rw (le-ltb 16416 (length s) h) (ap (answer-text s) e)
 
   -- ---- a sheet sent back, in the reader's order
-  sent-back : (ys : List ℤ) (ns : List ℕ) (ts : List ℤ) (number place : ℕ) → accepted s fine ≡ refused number place → readOf s ys ns ts ≡ refused number place
+  sent-back : (ys : List ℤ) (ns : List ℕ) (ts : List ℤ) (number place : ℕ) → accepted s passing ≡ refused number place → readOf s ys ns ts ≡ refused number place
   sent-back ys ns ts number place e = stopped (accepted-alike s) e
 
-  pub report-refused : (number place : ℕ) → length s ≤ 16416 → accepted s fine ≡ refused number place → reportOf s ≡ refusal number place
+  pub report-refused : (number place : ℕ) → length s ≤ 16416 → accepted s passing ≡ refused number place → reportOf s ≡ refusal number place
   unfolding answer-text
   report-refused number place h e = by-reading (refused number place) h (sent-back no-samples no-lengths no-totals number place e)
 
   -- ---- a sheet that is accepted
-  module _ (e : accepted s fine ≡ fine) where
+  module _ (e : accepted s passing ≡ passing) where
     module _ (ys : List ℤ) (ns : List ℕ) (ts : List ℤ) (a : length ys ≡ 1024) (b : length ns ≡ 1024) (c : length ts ≡ 1024) where
       room-tested : readOf s ys ns ts ≡ refuse-if (ltb (length ys) (minutes s) || (ltb (length ns) (minutes s) || ltb (length ts) (minutes s))) 5 0 (given (fields s))
       room-tested = passed (accepted-alike s) e .1
@@ -72,18 +74,18 @@ module _ (s : List ℕ) where
       pub report-own : 0 < segment-count s → reportOf s ≡ line-text (minutes s) (smoothing s) (lengths s) (totals s)
       report-own h =
           let M : length (lengths s) ≡ segment-count s = length-records 12 read-length _ _ in
-          report-line ∙ ⊎-elim (λ z. absurd (omega arith)) (λ z. sym (ap₂ (line-text (minutes s) (smoothing s)) (z .0) (z .1))) (judgement s e .line)
+          report-line ∙ ⊎-elim (λ z. absurd (omega arith)) (λ z. sym (ap₂ (line-text (minutes s) (smoothing s)) (z .0) (z .1))) (own-lists s e .line)
 
 -- ---- the rows are the segments that the sheet holds once it is completed, and N and L are that sheet's
-no-segments : (ns : List ℕ) (ts : List ℤ) → length ns ≡ 0 → Segments.lengths (segments ns ts) ≡ 0
-unfolding segments Segments.lengths
+no-segments : (ns : List ℕ) (ts : List ℤ) → length ns ≡ 0 → Segments.total-length (segments ns ts) ≡ 0
+unfolding segments Segments.total-length
 no-segments [] ts e = refl
 no-segments (n ∷ ns) ts e = absurd (omega arith)
 
 alike : {n n′ L L′ : ℕ} {ys ys′ : List ℤ} → n ≡ n′ → L ≡ L′ → ys ≡ ys′ → line-shown n L ys ≡ line-shown n′ L′ ys′
 alike p q r = rw (p, q, r)
 
-module _ (s o : List ℕ) (c : Completed s o) (accepts : accepted s fine ≡ fine) (m : minutes s ≤ 1024) where
+module _ (s o : List ℕ) (c : Completed s o) (accepts : accepted s passing ≡ passing) (m : minutes s ≤ 1024) where
   same-minutes : minutes o ≡ minutes s
   same-minutes =
       let a : length (samples o) ≡ minutes o = length-records 4 read-sample _ _ in
@@ -112,4 +114,4 @@ module _ (s out : List ℕ) (b : ℕ) (e : completeOf s out ≡ given b) (m : mi
   o = take b (completedAfter s out)
 
   pub report-completed : reportOf s ≡ line-text (minutes o) (smoothing o) (lengths o) (totals o)
-  report-completed = report-rows s o (CompleteLaws.completes s out b e) (passed (accepted-alike {y = fine} s) e .1) m
+  report-completed = report-rows s o (CompleteLaws.completes s out b e) (passed (accepted-alike {y = passing} s) e .1) m

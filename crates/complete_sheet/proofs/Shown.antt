@@ -7,7 +7,7 @@ use lib.ListN.{length, take, drop, length-append, length-drop}
 use lib.Seq.{length-take-le}
 use lib.IntN.{ℤ}
 use Rattle.optimality.specs.Segments.{Segment}
-use Rattle.optimality.specs.Plain.{lens, totals}
+use Rattle.optimality.specs.Plain.{line-lengths, line-totals}
 use Rattle.codec.specs.Place.{overwrite}
 use Rattle.level.specs.Answer.{Answer, refused, given}
 use Rattle.io.specs.Counts.{Counts}
@@ -24,7 +24,7 @@ Begins s text r l = (r ≡ length text) × (l ≡ overwrite s 0 text)
 
 -- the line that the lists have
 pub shown : {l : List Segment} {m : ℕ} {ns : List ℕ} {ts : List ℤ} → Has l m ns ts → (minutes smoothing : ℕ) {r : ℕ} (s : List ℕ) {s′ : List ℕ}
-    → Begins s (line-text minutes smoothing (take m ns) (take m ts)) r s′ → Begins s (line-text minutes smoothing (lens l) (totals l)) r s′
+    → Begins s (line-text minutes smoothing (take m ns) (take m ts)) r s′ → Begins s (line-text minutes smoothing (line-lengths l) (line-totals l)) r s′
 shown h minutes smoothing s b = rw (h .lengths, h .totals) at b
 
 module _ (s : List ℕ) (answer : Answer Fields) (out : List ℕ) {out′ : List ℕ} {r : ℕ} where

@@ -8,7 +8,7 @@ use Rattle.optimality.specs.Machine.{step, run, line}
 use Rattle.text.specs.Decimal.{digits, decimal, signedDecimal}
 use Rattle.codec.specs.Place.{bytesAt}
 use Rattle.codec.specs.LittleEndian.{decode, encode, signed, unsigned, getUnsigned}
-use Rattle.denoise.specs.Limits.{first-from}
+use Rattle.series.specs.Search.{first-from}
 use Rattle.sheet.specs.Format.{records, header, sample-bytes, segment-bytes, sheet-bytes}
 use Rattle.complete_sheet.specs.Report.{heading, row, rows, line-text, refusal, answer-text, reportOf}
 

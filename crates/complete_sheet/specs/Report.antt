@@ -6,14 +6,14 @@ use Prim.Native.Nat.{ℕ, _+_, _≤_, _<_}
 use lib.Dec.{ltb}
 use lib.ListN.{length, take, replicate}
 use lib.IntN.{ℤ, pos}
-use Rattle.optimality.specs.Plain.{lens, totals}
+use Rattle.optimality.specs.Plain.{line-lengths, line-totals}
 use Rattle.optimality.specs.Machine.{plain-line}
 use Rattle.level.specs.Answer.{Answer, refused, given}
-use Rattle.denoise.specs.Limits.{in-limits}
+use Rattle.series.specs.Limits.{in-limits}
 use Rattle.text.specs.Decimal.{decimal, signedDecimal}
+use Rattle.series.specs.Answer.{passing}
 use Rattle.sheet.specs.Format.{samples}
 use Rattle.sheet.specs.Read.{readOf}
-use Rattle.sheet.specs.Complete.{fine}
 use Rattle.sheet.specs.declared.Fields.{Fields}
 
 -- ---- the words, each with the spaces about it
@@ -72,7 +72,7 @@ refusal number place = refused-word ++ decimal number ++ space ++ decimal place 
 -- ---- the whole report
 -- the line of a series: that of the completed sheet. A line that was filed and accepted is this one
 abbrev pub line-shown : (minutes smoothing : ℕ) → List ℤ → List ℕ
-line-shown minutes smoothing ys = line-text minutes smoothing (lens (plain-line (pos smoothing) ys)) (totals (plain-line (pos smoothing) ys))
+line-shown minutes smoothing ys = line-text minutes smoothing (line-lengths (plain-line (pos smoothing) ys)) (line-totals (plain-line (pos smoothing) ys))
 
 -- by what a reader answers
 unfoldable pub answer-text : List ℕ → Answer Fields → List ℕ

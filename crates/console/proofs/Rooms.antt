@@ -9,13 +9,13 @@ use lib.Dec.{ltb}
 use lib.ListN.{length, set}
 use lib.IntN.{ℤ}
 use Rattle.level.specs.Answer.{Answer, refused, given, refuse-if}
-use Rattle.denoise.specs.Limits.{refill, on-success}
-use Rattle.denoise.proofs.Refusals.{never}
+use Rattle.series.specs.Answer.{refill, on-success}
+use Rattle.series.proofs.Refusals.{never, Alike, stop, pass, same-given, passed}
 use Rattle.sheet.specs.Answer.{fields}
 use Rattle.sheet.specs.Format.{minutes, segment-count}
 use Rattle.sheet.specs.Read.{accepted, readOf}
 use Rattle.sheet.specs.declared.Fields.{Fields}
-use Rattle.sheet.proofs.Chains.{Alike, stop, pass, same-given, passed, accepted-alike}
+use Rattle.sheet.proofs.SheetRefusals.{accepted-alike}
 use Rattle.console.specs.Reading.{readingOf}
 
 -- ---- the first entries of a list, set one by one

@@ -3,11 +3,11 @@ use mathlib.Core.Path.{_≡_, refl, ap, _∙_}
 use native.Mathlib.Omega.{arith}
 use lib.IntN.{ℤ}
 use Rattle.level.specs.Answer.{Answer, refused}
-use Rattle.denoise.proofs.PlaceLaws.{Placed, fine, placed}
+use Rattle.series.proofs.PlaceLaws.{Placed, unrefused, placed}
 use Rattle.console.specs.Code.{farthest, told}
 
 told-same : {A : Type 0} {a : Answer A} → Placed farthest a → told a ≡ a
-told-same fine = refl
+told-same unrefused = refl
 told-same (placed {number = number} s h) = ap (refused number) (omega arith)
 
 -- the result f of an answer as told is that of the answer, where H bounds its place

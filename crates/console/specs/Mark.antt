@@ -6,7 +6,7 @@ use lib.Dec.{ltb}
 use lib.ListN.{length}
 use lib.Ieee.{Float}
 use Rattle.level.specs.Answer.{Answer, refused, given, refuse-if}
-use Rattle.denoise.specs.Limits.{refill, on-success}
+use Rattle.series.specs.Answer.{refill, on-success}
 use Rattle.chart.specs.Chart.{Shown, plain, rise, fall}
 
 abbrev pub kind : Shown → ℕ

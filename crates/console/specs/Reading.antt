@@ -7,7 +7,7 @@ use lib.Dec.{ltb}
 use lib.ListN.{length}
 use lib.IntN.{ℤ}
 use Rattle.level.specs.Answer.{Answer, given, refuse-if}
-use Rattle.denoise.specs.Limits.{refill, on-success}
+use Rattle.series.specs.Answer.{refill, on-success}
 use Rattle.sheet.specs.Answer.{fields}
 use Rattle.sheet.specs.Format.{minutes, segment-count, samples, lengths, totals}
 use Rattle.sheet.specs.Read.{accepted}

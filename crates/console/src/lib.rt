@@ -7,8 +7,8 @@ ghost use lib.IntN.{pos};
 ghost use lib.ListN.{length};
 ghost use Rattle.denoise.specs.Line.{lineOf, lengthsOf, totalsOf};
 ghost use Rattle.denoise.specs.Dual.{balancesOf, balancesAfter};
-ghost use Rattle.denoise.specs.Check.{checked, checkOf};
-ghost use Rattle.denoise.specs.Limits.{refill, on-success};
+ghost use Rattle.series.specs.Answer.{checked, refill, on-success};
+ghost use Rattle.checker.specs.Check.{checkOf};
 ghost use Rattle.level.specs.Answer.{refused};
 ghost use Rattle.chart.specs.Chart.{markOf};
 ghost use Rattle.chart.specs.Whole.{segmentsOf, firstsOf, lastsOf, levelsOf};
@@ -19,9 +19,9 @@ ghost use Rattle.console.specs.Code.{refusal, code, code-of-none, code-o
 ghost use Rattle.console.specs.Mark.{room, kindOf, levelsAfter};
 ghost use Rattle.console.specs.Reading.{three, readingOf, samplesRead, lengthsRead, totalsRead, fieldsRead};
 use chart::Mark;
-use denoise::Checked;
 use denoise::Drawn;
-use denoise::Filled;
+use series::Checked;
+use series::Filled;
 use sheet::Fields;
 use sheet::Reading;
 use sheet::Written;
@@ -92,7 +92,7 @@ pub extern "C" fn series_check(
     ensures plain { λ r. ⌜ (length (now (lengths .entry)) ≤ farthest →
         r ≡ code-of-none (checkOf (now (samples .entry)) smoothing (now (lengths .entry)) (now (totals .entry)))) ⌝ }
 {
-    verdict(denoise::check(samples, smoothing, lengths, totals))
+    verdict(checker::check(samples, smoothing, lengths, totals))
 }
 
 #[no_mangle]

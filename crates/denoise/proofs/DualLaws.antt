@@ -10,16 +10,15 @@ use Rattle.integers.specs.Ring.{ring, reify}
 use Rattle.integers.specs.Sums.{sumZ}
 use Rattle.optimality.specs.Series.{Minute, plain, plain-minute}
 use Rattle.optimality.specs.Conditions.{after, dual}
-use Rattle.optimality.specs.Segments.{Segment, lengths, IsLine, Scale, numerators, by-divisor, then-v}
+use Rattle.optimality.specs.Segments.{Segment, total-length, IsLine, Scale, numerators, by-divisor, then-v}
 use Rattle.optimality.specs.Scales.{quotient}
-use Rattle.optimality.specs.Plain.{segments, lens, totals, length-plain, formed-lists}
+use Rattle.optimality.specs.Plain.{segments, line-lengths, line-totals, length-plain, formed-lists}
 use Rattle.optimality.specs.Machine.{plain-line}
 use Rattle.optimality.specs.Theorems as Theorems
 use Rattle.level.specs.Answer.{given}
-use Rattle.denoise.specs.Limits.{refill}
+use Rattle.series.specs.Answer.{refill}
 use Rattle.denoise.specs.Dual.{duals-inside, duals, factors, balancesOf, balancesAfter}
-use Rattle.denoise.proofs.Refusals.{never}
-use Rattle.denoise.proofs.CheckLaws.{limits-past}
+use Rattle.series.proofs.LimitsLaws.{limits-given}
 
 -- the numbers ds, each by its factor, are Q u after each minute, where U is Q u before the first
 unfoldable Agree : (Q U : ℤ) → List Minute → List ℤ → List ℕ → List ℤ → Type 0
@@ -91,8 +90,8 @@ unfoldable Plainly : List Segment → Type 0
 Plainly [] = Unit {0}
 Plainly (s ∷ ss) = (s .divisor ≡ s .len) × Plainly ss
 
-all-along : (Q : ℕ) → 0 < Q → (u : ℤ) (ys : List ℤ) (ss : List Segment) → lengths ss ≡ length ys → Plainly ss → Scale Q ss → Agree (pos Q) (pos Q *ℤ u) (plain ys) (numerators Q ss) (factors Q ss) (duals u ys ss)
-unfolding Agree plain lengths Plainly Scale numerators factors duals
+all-along : (Q : ℕ) → 0 < Q → (u : ℤ) (ys : List ℤ) (ss : List Segment) → total-length ss ≡ length ys → Plainly ss → Scale Q ss → Agree (pos Q) (pos Q *ℤ u) (plain ys) (numerators Q ss) (factors Q ss) (duals u ys ss)
+unfolding Agree plain total-length Plainly Scale numerators factors duals
 all-along Q p u [] [] l f z = tt
 all-along Q p u (y ∷ ys) [] l f z = absurd (omega arith)
 all-along Q p u ys (s ∷ ss) l f z =
@@ -116,14 +115,14 @@ module _ (ys : List ℤ) (L : ℕ) (out : List ℤ) (e : balancesOf ys L out ≡
   l = plain-line (pos L) ys
 
   some : 0 < length ys
-  some = limits-past ys L (λ number place h q. never q) e .0 .some
+  some = limits-given ys L e .0 .some
 
   line : IsLine (pos L) (pos 0) (pos 0) (plain ys) l
   line = Theorems.meets (pos L) ys some (0⩽pos L)
 
   agreed : (Q : ℕ) → 0 < Q → Scale Q l → Agree (pos Q) (pos 0) (plain ys) (numerators Q l) (factors Q l) (duals (pos 0) ys l)
   agreed Q p z =
-      let f : Plainly l = subst (λ ss. Plainly ss) (sym (formed-lists ys l (line .formed))) (plainly (lens l) (totals l)) in
+      let f : Plainly l = subst (λ ss. Plainly ss) (sym (formed-lists ys l (line .formed))) (plainly (line-lengths l) (line-totals l)) in
       subst (λ U. Agree (pos Q) U (plain ys) (numerators Q l) (factors Q l) (duals (pos 0) ys l)) (by-none (pos Q)) (all-along Q p (pos 0) ys l (line .formed .long ∙ length-plain ys) f z)
 
   pub balanced : (Q : ℕ) → 0 < Q → Scale Q l → (k : ℕ) → k < length ys →

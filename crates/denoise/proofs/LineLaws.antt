@@ -9,18 +9,18 @@ use lib.ListN.{length, take, drop, length-map}
 use lib.Seq.{take-at, drop-at}
 use lib.IntN.{ℤ, pos}
 use Rattle.integers.specs.Order.{0⩽pos}
-use Rattle.optimality.specs.Series.{plain}
+use Rattle.optimality.specs.Series.{plain, Limited}
 use Rattle.optimality.specs.Segments.{Segment, IsLine}
-use Rattle.optimality.specs.Plain.{segments, lens, totals, formed-lists, unique-lists}
+use Rattle.optimality.specs.Plain.{segments, line-lengths, line-totals, formed-lists, unique-lists}
 use Rattle.optimality.specs.Machine.{plain-line}
 use Rattle.optimality.specs.Theorems as Theorems
 use Rattle.level.specs.Answer.{Answer, refused, given, when-given}
-use Rattle.denoise.specs.Limits.{refill, Limited}
+use Rattle.series.specs.Answer.{refill}
 use Rattle.denoise.specs.Line.{lineOf, lengthsOf, totalsOf}
-use Rattle.denoise.specs.Optimality.{Meets, Only, Least}
-use Rattle.denoise.proofs.Refusals.{if-past, never}
-use Rattle.denoise.proofs.OptimalityLaws.{line-meets, meets-line, line-least}
-use Rattle.denoise.proofs.CheckLaws.{limits-past}
+use Rattle.series.specs.Optimality.{Meets, Only, Least}
+use Rattle.series.proofs.Refusals.{never, same-given, if-past}
+use Rattle.series.proofs.OptimalityLaws.{line-meets, meets-line, line-least}
+use Rattle.series.proofs.LimitsLaws.{limits-given}
 
 module _ (ys : List ℤ) (L : ℕ) (ns : List ℕ) (ts : List ℤ) (m : ℕ) (e : lineOf ys L ns ts ≡ given m) where
   abbrev l : List Segment
@@ -34,17 +34,14 @@ module _ (ys : List ℤ) (L : ℕ) (ns : List ℕ) (ts : List ℤ) (m : ℕ) (e 
 
   pub lists : Limited ys L × (m ≡ length l)
   lists =
-      let p = limits-past ys L (λ number place h q. never q) e in
+      let p = limits-given ys L e in
       let q = if-past (ltb (length ns) (length ys) || ltb (length ts) (length ys)) (λ q. never q) (p .1) in
-      (p .0, sym (same (q .1)))
-    where
-      same : {x y : ℕ} → given x ≡ given y → x ≡ y
-      same e = cc
+      (p .0, sym (same-given (q .1)))
 
-  pub lengths-are : (take m (lengthsOf ys L ns ts) ≡ lens l) × (drop m (lengthsOf ys L ns ts) ≡ drop m ns)
+  pub lengths-are : (take m (lengthsOf ys L ns ts) ≡ line-lengths l) × (drop m (lengthsOf ys L ns ts) ≡ drop m ns)
   lengths-are = first-list (λ s. s .len) ns (lengthsOf ys L ns ts) (lists .1) (rw e)
 
-  pub totals-are : (take m (totalsOf ys L ns ts) ≡ totals l) × (drop m (totalsOf ys L ns ts) ≡ drop m ts)
+  pub totals-are : (take m (totalsOf ys L ns ts) ≡ line-totals l) × (drop m (totalsOf ys L ns ts) ≡ drop m ts)
   totals-are = first-list (λ s. s .total) ts (totalsOf ys L ns ts) (lists .1) (rw e)
 
   -- the line that the lists then hold

@@ -8,14 +8,9 @@ use Rattle.integers.specs.Sums.{sumZ}
 use Rattle.optimality.specs.Series.{plain-minute}
 use Rattle.optimality.specs.Segments.{Segment, by-divisor, then-v}
 use Rattle.optimality.specs.Machine.{plain-line}
-use Rattle.level.specs.Answer.{Answer, refused, given, refuse-if}
-use Rattle.denoise.specs.Limits.{in-limits, refill, on-success}
-use Rattle.denoise.specs.declared.Filled.{Filled}
-use Rattle.denoise.specs.declared.Filled.the-variants as Filled
-
-abbrev pub filled : Filled → Answer (Unit {0})
-filled Filled.Done = given tt
-filled (Filled.Refused number place) = refused number place
+use Rattle.level.specs.Answer.{Answer, given, refuse-if}
+use Rattle.series.specs.Limits.{in-limits}
+use Rattle.series.specs.Answer.{refill, on-success}
 
 -- at the minutes of one segment, where v is u times its length before them
 unfoldable pub duals-inside : Segment → ℤ → List ℤ → List ℤ

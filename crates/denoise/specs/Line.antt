@@ -1,14 +1,15 @@
 -- The line of a series: refusals 1, 2, 4, 3, 5, then the only line that meets (6) and (7) of Condat 2013 (paper 01, "The line").
 use mathlib.Core.Bool.{_||_}
-use mathlib.Core.List.{List, map}
+use mathlib.Core.List.{List}
 use Prim.Native.Nat.{ℕ}
 use lib.Dec.{ltb}
 use lib.ListN.{length}
 use lib.IntN.{ℤ, pos}
-use Rattle.optimality.specs.Segments.{Segment}
+use Rattle.optimality.specs.Plain.{line-lengths, line-totals}
 use Rattle.optimality.specs.Machine.{plain-line}
 use Rattle.level.specs.Answer.{Answer, refused, given, refuse-if}
-use Rattle.denoise.specs.Limits.{in-limits, refill, on-success}
+use Rattle.series.specs.Limits.{in-limits}
+use Rattle.series.specs.Answer.{refill, on-success}
 use Rattle.denoise.specs.declared.Drawn.{Drawn}
 use Rattle.denoise.specs.declared.Drawn.the-variants as Drawn
 
@@ -23,7 +24,7 @@ module _ (ys : List ℤ) (smoothing : ℕ) (lengths : List ℕ) (totals : List �
 
   -- what the two lists then hold
   abbrev pub lengthsOf : List ℕ
-  lengthsOf = on-success lineOf (refill (map (λ (s : Segment). s .len) (plain-line (pos smoothing) ys)) lengths) lengths
+  lengthsOf = on-success lineOf (refill (line-lengths (plain-line (pos smoothing) ys)) lengths) lengths
 
   abbrev pub totalsOf : List ℤ
-  totalsOf = on-success lineOf (refill (map (λ (s : Segment). s .total) (plain-line (pos smoothing) ys)) totals) totals
+  totalsOf = on-success lineOf (refill (line-totals (plain-line (pos smoothing) ys)) totals) totals

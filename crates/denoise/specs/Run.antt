@@ -12,7 +12,7 @@ use Rattle.optimality.specs.Segments.{Segment}
 use Rattle.optimality.specs.Machine.{Increments, plain-increments, State, segment, begin, more}
 use Rattle.optimality.specs.Tests.{U′, n′, keeps-min, keeps-max}
 use Rattle.optimality.specs.Sound.{Sound, left, lines}
-use Rattle.optimality.specs.Limits.{Limited, Slight}
+use Rattle.optimality.specs.Limits.{Slight}
 use Rattle.optimality.specs.Limits as Limits
 use Rattle.denoise.specs.declared.steps.Slope.{Slope}
 use Rattle.denoise.specs.declared.steps.Tube.{Tube}
@@ -73,13 +73,6 @@ stateOf r =
 abbrev pub segmentOf : Piece → Segment
 segmentOf p = segment (p .len) (p .n) (p .total)
 
--- what the two lists of a line hold of a segment
-abbrev pub len-of : Segment → ℕ
-len-of s = s .len
-
-abbrev pub total-of : Segment → ℤ
-total-of s = s .total
-
 module _ (ys : List ℤ) (smoothing : ℕ) where
   abbrev pub dataOf : Increments
   dataOf = plain-increments (pos smoothing) ys
@@ -87,11 +80,6 @@ module _ (ys : List ℤ) (smoothing : ℕ) where
   -- one minute more
   abbrev pub moreOf : Run → State
   moreOf r = let s = stateOf r in more dataOf s (U′ dataOf s) (n′ dataOf s) (keeps-min dataOf s) (keeps-max dataOf s)
-
-  -- no refusal is due
-  pub record Within : Type 0 where
-    pub some : 0 < length ys
-    pub limited : Limited (pos smoothing) ys
 
   pub record Good (r : Run) : Type 0 where
     pub sound : Sound dataOf (stateOf r)

@@ -1,13 +1,13 @@
 // The segments of a line, written as they end.
 
 ghost use mathlib.Core.Path.{_≡_};
-ghost use mathlib.Core.List.{map};
 ghost use Prim.Native.Nat.{_≤_, _<_};
 ghost use lib.ListN.{length, set};
 ghost use lib.IntN.{pos};
 ghost use Rattle.optimality.specs.Machine.{plain-line};
-ghost use Rattle.denoise.specs.Limits.{refill};
-ghost use Rattle.denoise.specs.Run.{Within, len-of, total-of};
+ghost use Rattle.optimality.specs.Plain.{line-lengths, line-totals};
+ghost use Rattle.series.specs.Answer.{refill};
+ghost use Rattle.optimality.specs.Series.{Limited};
 use super::steps;
 use super::steps::Mark;
 use super::steps::Next;
@@ -15,12 +15,12 @@ use super::steps::Piece;
 
 // The line where nothing is refused.
 pub(crate) fn draw(samples: &[i32], smoothing: u64, lengths: &mut [u32], totals: &mut [i64]) -> u32
-    requires { ⌜ Within (now samples) smoothing ⌝ }
+    requires { ⌜ Limited (now samples) smoothing ⌝ }
     requires { ⌜ length (now samples) ≤ length (now lengths) ⌝ }
     requires { ⌜ length (now samples) ≤ length (now totals) ⌝ }
     ensures { λ m. ⌜ m ≡ length (plain-line (pos smoothing) (now (samples .entry))) ⌝ }
-    ensures { λ m. ⌜ now (lengths .exit) ≡ refill (map len-of (plain-line (pos smoothing) (now (samples .entry)))) (now (lengths .entry)) ⌝ }
-    ensures { λ m. ⌜ now (totals .exit) ≡ refill (map total-of (plain-line (pos smoothing) (now (samples .entry)))) (now (totals .entry)) ⌝ }
+    ensures { λ m. ⌜ now (lengths .exit) ≡ refill (line-lengths (plain-line (pos smoothing) (now (samples .entry)))) (now (lengths .entry)) ⌝ }
+    ensures { λ m. ⌜ now (totals .exit) ≡ refill (line-totals (plain-line (pos smoothing) (now (samples .entry)))) (now (totals .entry)) ⌝ }
 {
     let mut m = 0;
     let mut r = steps::begin(samples, smoothing, Mark { i: 0, u: 0 });

@@ -8,7 +8,8 @@ ghost use lib.IntN.{pos};
 ghost use Rattle.integers.specs.Bounds.{Upto};
 ghost use Rattle.optimality.specs.Machine.{begin};
 ghost use Rattle.optimality.specs.Tests.{test3, test4};
-ghost use Rattle.denoise.specs.Run.{Small, Mid, Within, belowOf, aheadOf, cutOf, fallOf, riseOf, stateOf, dataOf, moreOf, Good, Turns, Advanced};
+ghost use Rattle.optimality.specs.Series.{Limited};
+ghost use Rattle.denoise.specs.Run.{Small, Mid, belowOf, aheadOf, cutOf, fallOf, riseOf, stateOf, dataOf, moreOf, Good, Turns, Advanced};
 
 // The level total / n. It leads from the start of the segment under construction to minute k.
 pub struct Slope {
@@ -96,7 +97,7 @@ fn ahead(samples: &[i32], smoothing: u64, s: Slope) -> Tube
 
 // Step 1, and the restart of the others: a segment begins at a mark.
 pub(crate) fn begin(samples: &[i32], smoothing: u64, m: Mark) -> Run
-    requires { ⌜ Within (now samples) smoothing ⌝ }
+    requires { ⌜ Limited (now samples) smoothing ⌝ }
     requires { ⌜ m .i < length (now samples) ⌝ }
     requires { ⌜ Upto 1099511627776 (m .u) ⌝ }
     ensures { λ r. ⌜ stateOf r ≡ begin (dataOf (now (samples .entry)) smoothing) (m .i) (m .u) ⌝ }
@@ -154,7 +155,7 @@ fn cut(i: usize, s: Slope) -> Piece
 
 // Step 3's test, where a minute is left.
 pub(crate) fn falls(samples: &[i32], smoothing: u64, r: Run) -> bool
-    requires { ⌜ Within (now samples) smoothing ⌝ }
+    requires { ⌜ Limited (now samples) smoothing ⌝ }
     requires { ⌜ Good (now samples) smoothing r ⌝ }
     requires { ⌜ r .at .k < length (now samples) ⌝ }
     ensures { λ b. ⌜ b ≡ test3 (dataOf (now (samples .entry)) smoothing) (stateOf r) ⌝ }
@@ -168,7 +169,7 @@ pub(crate) fn falls(samples: &[i32], smoothing: u64, r: Run) -> bool
 
 // Step 4's test, where a minute is left.
 pub(crate) fn rises(samples: &[i32], smoothing: u64, r: Run) -> bool
-    requires { ⌜ Within (now samples) smoothing ⌝ }
+    requires { ⌜ Limited (now samples) smoothing ⌝ }
     requires { ⌜ Good (now samples) smoothing r ⌝ }
     requires { ⌜ r .at .k < length (now samples) ⌝ }
     ensures { λ b. ⌜ b ≡ test4 (dataOf (now (samples .entry)) smoothing) (stateOf r) ⌝ }
@@ -182,7 +183,7 @@ pub(crate) fn rises(samples: &[i32], smoothing: u64, r: Run) -> bool
 
 // Step 3: the segment ends where the lower bound was touched.
 pub(crate) fn fall(samples: &[i32], smoothing: u64, r: Run) -> Ending
-    requires { ⌜ Within (now samples) smoothing ⌝ }
+    requires { ⌜ Limited (now samples) smoothing ⌝ }
     requires { ⌜ Good (now samples) smoothing r ⌝ }
     requires { ⌜ r .at .k < length (now samples) ⌝ }
     requires { ⌜ test3 (dataOf (now samples) smoothing) (stateOf r) ≡ true ⌝ }
@@ -197,7 +198,7 @@ pub(crate) fn fall(samples: &[i32], smoothing: u64, r: Run) -> Ending
 
 // Step 4: the segment ends where the upper bound was touched.
 pub(crate) fn rise(samples: &[i32], smoothing: u64, r: Run) -> Ending
-    requires { ⌜ Within (now samples) smoothing ⌝ }
+    requires { ⌜ Limited (now samples) smoothing ⌝ }
     requires { ⌜ Good (now samples) smoothing r ⌝ }
     requires { ⌜ r .at .k < length (now samples) ⌝ }
     requires { ⌜ test3 (dataOf (now samples) smoothing) (stateOf r) ≡ false ⌝ }
@@ -213,7 +214,7 @@ pub(crate) fn rise(samples: &[i32], smoothing: u64, r: Run) -> Ending
 
 // Steps 5 and 6.
 pub(crate) fn more(samples: &[i32], smoothing: u64, r: Run) -> Run
-    requires { ⌜ Within (now samples) smoothing ⌝ }
+    requires { ⌜ Limited (now samples) smoothing ⌝ }
     requires { ⌜ Good (now samples) smoothing r ⌝ }
     requires { ⌜ r .at .k < length (now samples) ⌝ }
     ensures { λ q. ⌜ stateOf q ≡ moreOf (now (samples .entry)) smoothing r ⌝ }
@@ -238,7 +239,7 @@ pub(crate) fn more(samples: &[i32], smoothing: u64, r: Run) -> Run
 
 // Steps 8 to 10. Step 2 is step 10 at a segment of one minute.
 pub(crate) fn finish(samples: &[i32], smoothing: u64, r: Run) -> Next
-    requires { ⌜ Within (now samples) smoothing ⌝ }
+    requires { ⌜ Limited (now samples) smoothing ⌝ }
     requires { ⌜ Good (now samples) smoothing r ⌝ }
     requires { ⌜ r .at .k ≡ length (now samples) ⌝ }
     ensures { λ n. ⌜ Advanced (now (samples .entry)) smoothing r n ⌝ }

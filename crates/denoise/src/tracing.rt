@@ -8,9 +8,9 @@ ghost use lib.IntN.{pos};
 ghost use Rattle.integers.specs.Bounds.{Upto};
 ghost use Rattle.optimality.specs.Limits.{Slight};
 ghost use Rattle.optimality.specs.Machine.{plain-line};
-ghost use Rattle.denoise.specs.Limits.{refill};
+ghost use Rattle.series.specs.Answer.{refill};
 ghost use Rattle.denoise.specs.Dual.{duals};
-ghost use Rattle.denoise.specs.Run.{Within};
+ghost use Rattle.optimality.specs.Series.{Limited};
 ghost use Rattle.denoise.specs.Trace.{Steady, Fills, minuteOf, filledOf, markOf};
 use super::steps;
 use super::steps::Mark;
@@ -26,7 +26,7 @@ pub struct Dual {
 
 // The dual, all along the line.
 pub(crate) fn trace(samples: &[i32], smoothing: u64, out: &mut [i64])
-    requires { ⌜ Within (now samples) smoothing ⌝ }
+    requires { ⌜ Limited (now samples) smoothing ⌝ }
     requires { ⌜ length (now samples) ≤ length (now out) ⌝ }
     ensures { λ _. ⌜ now (out .exit) ≡ refill (duals (pos 0) (now (samples .entry)) (plain-line (pos smoothing) (now (samples .entry)))) (now (out .entry)) ⌝ }
 {

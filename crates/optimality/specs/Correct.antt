@@ -18,7 +18,7 @@ use Rattle.integers.specs.Linear.{int, lt-no}
 use Rattle.integers.specs.Ring.{ring, reify}
 use Rattle.integers.specs.Certificates.{by⩽, by0⋖}
 use Rattle.optimality.specs.Series.{Minute, plain-minute, plain, Positive}
-use Rattle.optimality.specs.Segments.{Segment, cross, lengths, Differs, Proper, weigh, Weighed, then-v, by-divisor, side, between, break-from, first-break, IsLine}
+use Rattle.optimality.specs.Segments.{Segment, cross, total-length, Differs, Proper, weigh, Weighed, then-v, by-divisor, side, between, break-from, first-break, IsLine}
 use Rattle.optimality.specs.Machine.{Increments, increments, plain-increments, line, plain-line}
 use Rattle.optimality.specs.Rates.{_≺_}
 use Rattle.optimality.specs.Tube.{Right, plain-right, prefix, Side, floor, roof, lt, W, R, edge, edge-is, back-z, start-is}
@@ -64,8 +64,8 @@ module _ (d : Increments) where
   proper i z (g ∷ []) P = (omega (arith, P .0 .some), tt, tt)
   proper i z (g ∷ t ∷ l) P = (omega (arith, P .0 .some), differs (P .1 .side) g t (P .1 .beyond), proper (i + g .len) (z +ℤ g .total) (t ∷ l) (P .2))
 
-  long : (i : ℕ) (z : ℤ) (l : List Segment) → Path d i z l → i + lengths l ≡ N
-  unfolding Path lengths
+  long : (i : ℕ) (z : ℤ) (l : List Segment) → Path d i z l → i + total-length l ≡ N
+  unfolding Path total-length
   long i z [] P = omega (arith, P .0)
   long i z (g ∷ l) P = omega (arith, long (i + g .len) (z +ℤ g .total) l (P .2))
 

@@ -2,17 +2,18 @@
 -- A segment of n minutes begins with a dual of at most L, so |U| ≤ L + 2^24 n.
 use mathlib.Core.Path.{_≡_, refl, _∙_, ap}
 use mathlib.Core.Bool.{Bool, true, false}
-use mathlib.Core.List.{List}
+use mathlib.Core.List.{List, [], _∷_}
 use mathlib.Core.Logic.{⊎-elim}
 use native.Mathlib.Omega.{arith}
 use native.Mathlib.Nat.{eq-or-lt-of-le}
-use Prim.Native.Nat.{ℕ, suc, _+_, _*_, _-_, _<_, _≤_}
+use Prim.Native.Nat.{ℕ, zero, suc, _+_, _*_, _-_, _<_, _≤_}
 use lib.ListN.{length, getD}
 use lib.IntN.{ℤ, pos, negℤ, natAbs, _+ℤ_, _*ℤ_, _-ℤ_}
 use mir.Syntax.{w64}
 use mir.Val.{SFits}
 use Rattle.integers.specs.Order.{_⩽_, abs-+, abs-neg}
 use Rattle.integers.specs.Bounds.{Upto, cleaning, fit}
+use Rattle.optimality.specs.Series.{plain, Bounded, Limited}
 use Rattle.optimality.specs.Machine.{Increments, plain-increments, State, Out, on, emit, stop, pick, begin, more, inside, final, step}
 use Rattle.optimality.specs.Tube.{Right, plain-right}
 use Rattle.optimality.specs.Tests.{U′, n′, test3, test4, keeps-min, keeps-max, test8, test9, step-inside, step-final}
@@ -27,18 +28,18 @@ picked : (b : Bool) (t n t′ n′ : ℤ) → Slight t n → Slight t′ n′ �
 picked true t n t′ n′ h k = h
 picked false t n t′ n′ h k = k
 
+pub sample-small : (B : ℕ) (ys : List ℤ) → Bounded B (plain ys) → (j : ℕ) → j < length ys → Upto B (getD ys j (pos 0))
+unfolding Bounded plain
+sample-small B [] h j k = absurd (omega arith)
+sample-small B (y ∷ ys) h zero k = record { upto = h .0 }
+sample-small B (y ∷ ys) h (suc j) k = sample-small B ys (h .1) j (omega arith)
+
 module _ (L : ℤ) (ys : List ℤ) where
   abbrev d : Increments
   d = plain-increments L ys
 
   abbrev y : ℕ → ℤ
   y j = getD ys j (pos 0)
-
-  -- 2^16 minutes, samples of 2^24, a smoothing of 2^40
-  pub record Limited : Type 0 where
-    pub minutes : length ys ≤ 65536
-    pub samples : (j : ℕ) → j < length ys → Upto 16777216 (y j)
-    pub smoothing : Upto 1099511627776 L
 
   pub record Small (s : State) : Type 0 where
     pub count : s .n ≡ pos (s .k - s .i)
@@ -80,19 +81,22 @@ module _ (L : ℤ) (ys : List ℤ) where
     test9 = (fit (search cleaning depth 12) tt, fit (search cleaning depth 12) tt);
   }
 
-  module _ (some : 0 < length ys) (smooth : pos 0 ⩽ L) (lim : Limited) where
+  module _ (smooth : pos 0 ⩽ L) (lim : Limited ys (natAbs L)) where
     abbrev r : Right d
-    r = plain-right L ys some smooth
+    r = plain-right L ys (lim .some) smooth
+
+    sample : (j : ℕ) → j < length ys → Upto 16777216 (y j)
+    sample = sample-small 16777216 ys (lim .samples)
 
     -- a bound touched at U, after n minutes
     touched : (U : ℤ) (n : ℕ) (e : ℤ) → natAbs e ≡ natAbs L → natAbs U ≤ natAbs L + 16777216 * n → n ≤ 65536 → Slight (U +ℤ e) (pos n)
-    touched U n e q h k = record { total = record { upto = omega (arith, abs-+ U e, lim .smoothing .upto) }; divisor = record { upto = k } }
+    touched U n e q h k = record { total = record { upto = omega (arith, abs-+ U e, lim .smooth) }; divisor = record { upto = k } }
 
     -- ---- step 1
     pub begin-small : (i : ℕ) (u : ℤ) → natAbs u ≤ natAbs L → i < length ys → Small (begin d i u)
     begin-small i u h k =
         let n : suc i - i ≡ 1 = omega arith in
-        let U : natAbs (u +ℤ y i) ≤ natAbs L + 16777216 * 1 = omega (arith, abs-+ u (y i), lim .samples i k .upto) in
+        let U : natAbs (u +ℤ y i) ≤ natAbs L + 16777216 * 1 = omega (arith, abs-+ u (y i), sample i k .upto) in
         record { count = rw n; sum = rw n U; min = touched (u +ℤ y i) 1 (negℤ L) (abs-neg L) U (omega arith); max = touched (u +ℤ y i) 1 L refl U (omega arith) }
 
     fallen : (κ : ℕ) → κ < length ys → Small (begin d κ L)
@@ -107,11 +111,11 @@ module _ (L : ℤ) (ys : List ℤ) where
 
       pub room : Room s
       room = record {
-        U = record { upto = omega (arith, B .sum, F .from, F .upto, lim .minutes, lim .smoothing .upto) };
-        n = record { upto = omega (arith, ap natAbs (B .count), F .upto, lim .minutes) };
+        U = record { upto = omega (arith, B .sum, F .from, F .upto, lim .few, lim .smooth) };
+        n = record { upto = omega (arith, ap natAbs (B .count), F .upto, lim .few) };
         min = B .min;
         max = B .max;
-        smoothing = lim .smoothing;
+        smoothing = record { upto = lim .smooth };
       }
 
       -- ---- steps 5 and 6
@@ -120,8 +124,8 @@ module _ (L : ℤ) (ys : List ℤ) where
           let m = suc (s .k) - s .i in
           let q : s .k - s .i + 1 ≡ m = omega (arith, F .from) in
           let n : n′ d s ≡ pos m = ap (λ n. n +ℤ pos 1) (B .count) ∙ ap pos q in
-          let l : m ≤ 65536 = omega (arith, lim .minutes) in
-          let U : natAbs (U′ d s) ≤ natAbs L + 16777216 * m = omega (arith, abs-+ (s .U) (y (s .k)), B .sum, lim .samples (s .k) h .upto) in
+          let l : m ≤ 65536 = omega (arith, lim .few) in
+          let U : natAbs (U′ d s) ≤ natAbs L + 16777216 * m = omega (arith, abs-+ (s .U) (y (s .k)), B .sum, sample (s .k) h .upto) in
           let new : (e : ℤ) → natAbs e ≡ natAbs L → Slight (U′ d s +ℤ e) (n′ d s) = λ e f. rw n (touched (U′ d s) m e f U l) in
           record {
             count = n;

@@ -8,7 +8,7 @@ use lib.IntN.{ℤ, pos, _+ℤ_}
 use lib.Signed.{ltZ-yes}
 use Rattle.integers.specs.Order.{_⩽_}
 use Rattle.optimality.specs.Series.{Positive, plain, plain-minute}
-use Rattle.optimality.specs.Segments.{Segment, lengths, Proper, weigh, Weighed, WellFormed, IsLine}
+use Rattle.optimality.specs.Segments.{Segment, total-length, Proper, weigh, Weighed, WellFormed, IsLine}
 use Rattle.optimality.specs.Unique.{unique}
 
 -- ---- the series
@@ -39,34 +39,34 @@ segments [] ts = []
 segments (n ∷ ns) [] = []
 segments (n ∷ ns) (t ∷ ts) = record { len = n; divisor = n; total = t } ∷ segments ns ts
 
-weighed-plain : (ys : List ℤ) (ns : List ℕ) (ts : List ℤ) → lengths (segments ns ts) ≤ length ys → Weighed (plain ys) (segments ns ts)
-unfolding Weighed segments lengths
+weighed-plain : (ys : List ℤ) (ns : List ℕ) (ts : List ℤ) → total-length (segments ns ts) ≤ length ys → Weighed (plain ys) (segments ns ts)
+unfolding Weighed segments total-length
 weighed-plain ys [] ts h = tt
 weighed-plain ys (n ∷ ns) [] h = tt
 weighed-plain ys (n ∷ ns) (t ∷ ts) h = (sym (weigh-plain n ys (omega arith)), rw (drop-plain n ys) (weighed-plain (drop n ys) ns ts (omega (arith, length-drop n ys))))
 
-pub plain-formed : (ys : List ℤ) (ns : List ℕ) (ts : List ℤ) → Proper (segments ns ts) → lengths (segments ns ts) ≡ length ys → WellFormed (plain ys) (segments ns ts)
+pub plain-formed : (ys : List ℤ) (ns : List ℕ) (ts : List ℤ) → Proper (segments ns ts) → total-length (segments ns ts) ≡ length ys → WellFormed (plain ys) (segments ns ts)
 plain-formed ys ns ts r l = record { proper = r; long = l ∙ sym (length-plain ys); weighed = weighed-plain ys ns ts (omega arith) }
 
 -- ---- and the lists of a line, the one the inverse of the other
-abbrev pub lens : List Segment → List ℕ
-lens ss = map (λ s. s .len) ss
+abbrev pub line-lengths : List Segment → List ℕ
+line-lengths ss = map (λ s. s .len) ss
 
-abbrev pub totals : List Segment → List ℤ
-totals ss = map (λ s. s .total) ss
+abbrev pub line-totals : List Segment → List ℤ
+line-totals ss = map (λ s. s .total) ss
 
-as-lists : (ys : List ℤ) (ss : List Segment) → lengths ss ≤ length ys → Weighed (plain ys) ss → ss ≡ segments (lens ss) (totals ss)
-unfolding Weighed segments lengths
+as-lists : (ys : List ℤ) (ss : List Segment) → total-length ss ≤ length ys → Weighed (plain ys) ss → ss ≡ segments (line-lengths ss) (line-totals ss)
+unfolding Weighed segments total-length
 as-lists ys [] l w = refl
 as-lists ys (s ∷ ss) l w = ap₂ _∷_ (go (w .0 ∙ weigh-plain (s .len) ys (omega arith))) (as-lists (drop (s .len) ys) ss (omega (arith, length-drop (s .len) ys)) (rw (drop-plain (s .len) ys) at (w .1)))
   where
     go : pos (s .divisor) ≡ pos (s .len) → s ≡ record { len = s .len; divisor = s .len; total = s .total }
     go e = let d : s .divisor ≡ s .len = cc in λ i. record { len = s .len; divisor = d i; total = s .total }
 
-pub formed-lists : (ys : List ℤ) (ss : List Segment) → WellFormed (plain ys) ss → ss ≡ segments (lens ss) (totals ss)
+pub formed-lists : (ys : List ℤ) (ss : List Segment) → WellFormed (plain ys) ss → ss ≡ segments (line-lengths ss) (line-totals ss)
 formed-lists ys ss f = as-lists ys ss (omega (arith, f .long, length-plain ys)) (f .weighed)
 
-lists-back : (ns : List ℕ) (ts : List ℤ) → length ns ≡ length ts → (lens (segments ns ts) ≡ ns) × (totals (segments ns ts) ≡ ts)
+lists-back : (ns : List ℕ) (ts : List ℤ) → length ns ≡ length ts → (line-lengths (segments ns ts) ≡ ns) × (line-totals (segments ns ts) ≡ ts)
 unfolding segments
 lists-back [] [] l = (refl, refl)
 lists-back [] (t ∷ ts) l = absurd (omega arith)
@@ -77,7 +77,7 @@ pub same-lists : (ns ns′ : List ℕ) (ts ts′ : List ℤ) → length ns ≡ l
 same-lists ns ns′ ts ts′ l l′ e =
     let h = lists-back ns ts l in
     let h′ = lists-back ns′ ts′ l′ in
-    (sym (h .0) ∙ ap lens e ∙ h′ .0, sym (h .1) ∙ ap totals e ∙ h′ .1)
+    (sym (h .0) ∙ ap line-lengths e ∙ h′ .0, sym (h .1) ∙ ap line-totals e ∙ h′ .1)
 
 -- so a plain series has one line, as lists too
 pub unique-lists : (L : ℤ) (ys : List ℤ) (ns ns′ : List ℕ) (ts ts′ : List ℤ) → pos 0 ⩽ L → length ns ≡ length ts → length ns′ ≡ length ts′ →

@@ -12,7 +12,7 @@ use Rattle.integers.specs.Order.{_⩽_, gap, ⋖→⩽, 0⩽pos, absℤ, abs-*,
 use Rattle.integers.specs.Ring.{reify}
 use Rattle.integers.specs.Linear.{int, up, dn, dif, opp, size}
 use Rattle.integers.specs.Certificates.{_⊕_, _⊗_, by⩽}
-use Rattle.optimality.specs.Series.{Minute, Positive}
+use Rattle.optimality.specs.Series.{Minute, Positive, Bounded}
 use Rattle.optimality.specs.Conditions.{Optimal}
 use Rattle.optimality.specs.Segments.{Segment, Proper, IsLine, Scale, numerator, numerators}
 use Rattle.optimality.specs.Cost.{misfit, variation}
@@ -20,11 +20,7 @@ use Rattle.optimality.specs.Scales.{common}
 use Rattle.optimality.specs.Verdict.{of-scale, optimal}
 use Rattle.optimality.specs.Optimum.{best, only}
 
--- no sample, and no level, is beyond ± B
-unfoldable pub Bounded : ℕ → List Minute → Type 0
-Bounded B [] = Unit {0}
-Bounded B (m ∷ ms) = (natAbs (m .sample) ≤ B) × Bounded B ms
-
+-- no level is beyond ± B
 unfoldable pub Within : ℕ → List Segment → Type 0
 Within B [] = Unit {0}
 Within B (s ∷ ss) = (natAbs (s .total) ≤ s .divisor * B) × Within B ss

@@ -11,7 +11,7 @@ use lib.Signed.{≤ℤ-refl}
 use Rattle.integers.specs.Order.{_⩽_, _⋖_, ⋖→⩽, 0⩽+, 0⋖+}
 use Rattle.integers.specs.Linear.{int}
 use Rattle.optimality.specs.Series.{Minute, Positive}
-use Rattle.optimality.specs.Segments.{Segment, lengths, Proper, weigh, Weighed, WellFormed, Scale}
+use Rattle.optimality.specs.Segments.{Segment, total-length, Proper, weigh, Weighed, WellFormed, Scale}
 
 -- c is Q / d
 pub record Quotient (Q d c : ℤ) : Type 0 where
@@ -56,8 +56,8 @@ positive-drop zero ms p = p
 positive-drop (suc n) [] p = p
 positive-drop (suc n) (m ∷ ms) p = positive-drop n ms (p .1)
 
-0<product : (ms : List Minute) (ss : List Segment) → Positive ms → Proper ss → lengths ss ≡ length ms → Weighed ms ss → 0 < product ss
-unfolding product lengths Proper Weighed
+0<product : (ms : List Minute) (ss : List Segment) → Positive ms → Proper ss → total-length ss ≡ length ms → Weighed ms ss → 0 < product ss
+unfolding product total-length Proper Weighed
 0<product ms [] p r l w = omega arith
 0<product ms (s ∷ ss) p r l w =
     let h : 0 < s .len = r .0 in

@@ -22,9 +22,9 @@ abbrev pub cross : Segment → Segment → ℤ
 cross s t = s .total *ℤ pos (t .divisor)
 
 -- ---- the form of a line
-unfoldable pub lengths : List Segment → ℕ
-lengths [] = 0
-lengths (s ∷ ss) = s .len + lengths ss
+unfoldable pub total-length : List Segment → ℕ
+total-length [] = 0
+total-length (s ∷ ss) = s .len + total-length ss
 
 unfoldable pub Differs : Segment → List Segment → Type 0
 Differs s [] = Unit {0}
@@ -48,7 +48,7 @@ Weighed ms (s ∷ ss) = (pos (s .divisor) ≡ weigh (s .len) ms) × Weighed (dro
 
 pub record WellFormed (ms : List Minute) (ss : List Segment) : Type 0 where
   pub proper : Proper ss
-  pub long : lengths ss ≡ length ms
+  pub long : total-length ss ≡ length ms
   pub weighed : Weighed ms ss
 
 -- ---- (6) and (7). Inside a segment the dual is told times its divisor: v is that before the minute m, and after it

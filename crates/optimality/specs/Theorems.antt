@@ -7,17 +7,17 @@ use lib.ListN.{length}
 use lib.IntN.{ℤ, pos}
 use Rattle.integers.specs.Order.{_⩽_}
 use Rattle.integers.specs.Sums.{sumZ}
-use Rattle.optimality.specs.Series.{plain}
+use Rattle.optimality.specs.Series.{plain, Bounded}
 use Rattle.optimality.specs.Conditions.{Optimal}
 use Rattle.optimality.specs.Segments.{Segment, IsLine, Scale, numerators}
 use Rattle.optimality.specs.Minimum.{PlainMinimum}
 use Rattle.optimality.specs.Machine.{plain-line}
 use Rattle.optimality.specs.Verdict.{optimal}
 use Rattle.optimality.specs.Unique.{unique}
-use Rattle.optimality.specs.Plain.{plain-positive, totals}
+use Rattle.optimality.specs.Plain.{plain-positive, line-totals}
 use Rattle.optimality.specs.Candidate.{plain-minimum}
 use Rattle.optimality.specs.Totals.{plain-totals}
-use Rattle.optimality.specs.Range.{Bounded, Within, in-range}
+use Rattle.optimality.specs.Range.{Within, in-range}
 use Rattle.optimality.specs.Correct.{plain-correct}
 
 module _ (L : ℤ) (ys : List ℤ) (some : 0 < length ys) (smooth : pos 0 ⩽ L) where
@@ -34,7 +34,7 @@ module _ (L : ℤ) (ys : List ℤ) (some : 0 < length ys) (smooth : pos 0 ⩽ L)
   pub minimum : PlainMinimum L ys (plain-line L ys)
   minimum = plain-minimum L ys (plain-line L ys) smooth meets
 
-  pub totals-add-up : sumZ (totals (plain-line L ys)) ≡ sumZ ys
+  pub totals-add-up : sumZ (line-totals (plain-line L ys)) ≡ sumZ ys
   totals-add-up = plain-totals L ys (plain-line L ys) smooth some meets
 
   pub in-samples-range : (B : ℕ) → Bounded B (plain ys) → Within B (plain-line L ys)

@@ -17,7 +17,7 @@ use Rattle.integers.specs.Certificates.{by0⋖}
 use Rattle.integers.specs.Products.{*-mono, *-cancel, *-cancel<}
 use Rattle.optimality.specs.Series.{Minute}
 use Rattle.optimality.specs.Conditions.{after, Turn, Optimal, FirstBreak}
-use Rattle.optimality.specs.Segments.{Segment, cross, lengths, Differs, Proper, WellFormed, then-v, side, between, test, break-from, first-break, IsLine, Scale, numerator, numerators}
+use Rattle.optimality.specs.Segments.{Segment, cross, total-length, Differs, Proper, WellFormed, then-v, side, between, test, break-from, first-break, IsLine, Scale, numerator, numerators}
 use Rattle.optimality.specs.Along.{Turns, Meets, Breaks, meets↔optimal, breaks→first}
 use Rattle.optimality.specs.Scales.{Quotient, quotient}
 
@@ -110,9 +110,9 @@ module _ (Q : ℕ) (q : 0 < Q) where
     at-turn s t z z′ d U = unequal-turn (pos Q) L U _ _ (cross s t) (cross t s) (0⩽* (0⩽pos Q) p) d (in-order s t z z′) (in-order t s z′ z)
 
     -- n minutes are left of s
-    judge : (i : ℕ) (ms : List Minute) (s : Segment) (v : ℤ) (n : ℕ) (ss : List Segment) → 0 < n → n + lengths ss ≡ length ms → Differs s ss → Proper ss → Scale Q (s ∷ ss) →
+    judge : (i : ℕ) (ms : List Minute) (s : Segment) (v : ℤ) (n : ℕ) (ss : List Segment) → 0 < n → n + total-length ss ≡ length ms → Differs s ss → Proper ss → Scale Q (s ∷ ss) →
         (U : ℤ) → U ≡ v *ℤ pos (Q / s .divisor) → Verdict (pos Q) L b U i ms (replicate n (numerator Q s) ++ numerators Q ss) (break-from L b i ms s v n ss)
-    unfolding Scale numerators Turns Meets Differs Proper lengths break-from
+    unfolding Scale numerators Turns Meets Differs Proper total-length break-from
     judge i [] s v n ss k l d r z U f = absurd (omega arith)
     judge i (m ∷ ms) s v zero ss k l d r z U f = absurd (omega arith)
     judge i (m ∷ []) s v (suc zero) [] k l d r z U f =
@@ -130,15 +130,15 @@ module _ (Q : ℕ) (q : 0 < Q) where
         let f′ = moved g U v (m .weight) (m .sample) (s .total) f in
         tested (pos Q) L b U i m ms _ _ _ _ _ _ (inside g _ _ f′ L (numerator Q s)) (λ h. judge (suc i) ms s (then-v s v m) (suc n) ss (omega arith) (omega arith) d r z _ f′)
 
-    verdict : (a : ℤ) (ms : List Minute) (ss : List Segment) → Proper ss → lengths ss ≡ length ms → Scale Q ss → Verdict (pos Q) L b (pos Q *ℤ a) 1 ms (numerators Q ss) (first-break L a b ms ss)
-    unfolding Proper lengths Scale numerators first-break Meets
+    verdict : (a : ℤ) (ms : List Minute) (ss : List Segment) → Proper ss → total-length ss ≡ length ms → Scale Q ss → Verdict (pos Q) L b (pos Q *ℤ a) 1 ms (numerators Q ss) (first-break L a b ms ss)
+    unfolding Proper total-length Scale numerators first-break Meets
     verdict a [] [] r l z = tt
     verdict a (m ∷ ms) [] r l z = absurd (omega arith)
     verdict a ms (s ∷ ss) r l z = judge 1 ms s _ (s .len) ss (r .0) l (r .1) (r .2) z _ (at-scale (of-scale s (z .0)) a)
 
 -- ---- for the reader's definitions
-length-numerators : (Q : ℕ) (ss : List Segment) → length (numerators Q ss) ≡ lengths ss
-unfolding numerators lengths
+length-numerators : (Q : ℕ) (ss : List Segment) → length (numerators Q ss) ≡ total-length ss
+unfolding numerators total-length
 length-numerators Q [] = refl
 length-numerators Q (s ∷ ss) = simp (length-append, length-replicate, length-numerators Q ss)
 

@@ -4,10 +4,10 @@
 ghost use mathlib.Core.Path.{_≡_};
 ghost use Prim.Native.Nat.{_≤_};
 ghost use lib.ListN.{length};
-ghost use Rattle.denoise.specs.Check.{checkOf};
-ghost use Rattle.denoise.specs.Records.{lengths-of, totals-of};
+ghost use Rattle.checker.specs.Check.{checkOf};
+ghost use Rattle.checker.specs.Records.{lengths-of, totals-of};
 ghost use Rattle.console.specs.Code.{code-of-none, farthest, told};
-use denoise::Segment;
+use checker::Segment;
 
 #[no_mangle]
 pub extern "C" fn series_check_segments(
@@ -20,5 +20,5 @@ pub extern "C" fn series_check_segments(
     ensures plain { λ r. ⌜ (length (now (segments .entry)) ≤ farthest →
         r ≡ code-of-none (checkOf (now (samples .entry)) smoothing (lengths-of (now (segments .entry))) (totals-of (now (segments .entry))))) ⌝ }
 {
-    console::verdict(denoise::check_segments(samples, smoothing, segments))
+    console::verdict(checker::check_segments(samples, smoothing, segments))
 }

@@ -10,41 +10,44 @@ use lib.ListN.{length, take, length-map}
 use lib.Seq.{take-at}
 use lib.IntN.{ℤ, pos}
 use Rattle.integers.specs.Order.{0⩽pos}
-use Rattle.optimality.specs.Series.{plain}
+use Rattle.optimality.specs.Series.{plain, Limited}
 use Rattle.optimality.specs.Segments.{IsLine}
-use Rattle.optimality.specs.Plain.{segments, lens, unique-lists}
+use Rattle.optimality.specs.Plain.{segments, line-lengths, unique-lists}
 use Rattle.optimality.specs.Plain as Plain
 use Rattle.optimality.specs.Machine.{plain-line}
 use Rattle.level.specs.Answer.{Answer, refused, given, when-given}
-use Rattle.denoise.specs.Limits.{in-limits, refill, Limited}
-use Rattle.denoise.specs.Check.{meets-conditions}
-use Rattle.denoise.specs.Optimality.{Meets, Only, Least}
-use Rattle.denoise.proofs.OptimalityLaws.{line-meets, meets-line, line-least}
-use Rattle.denoise.proofs.CheckLaws.{passes-line↔}
+use Rattle.series.specs.Limits.{in-limits}
+use Rattle.series.specs.Answer.{refill, passing}
+use Rattle.checker.specs.Check.{meets-conditions}
+use Rattle.series.specs.Optimality.{Meets, Only, Least}
+use Rattle.series.proofs.OptimalityLaws.{line-meets, meets-line, line-least}
+use Rattle.checker.proofs.CheckLaws.{passes-line↔}
+use Rattle.series.proofs.Refusals.{Alike, pass, passed}
+use Rattle.series.proofs.LimitsLaws.{limits-alike}
 use Rattle.sheet.specs.Format.{smoothing, samples, lengths, totals, filed-line, size}
 use Rattle.sheet.specs.HeadLaws.{InOrder}
 use Rattle.sheet.specs.HeadLaws as HeadLaws
 use Rattle.sheet.specs.ListLaws.{length-records}
 use Rattle.sheet.specs.Read.{unless, filed, accepted}
-use Rattle.sheet.specs.Complete.{completed, finishOf, completeOf, completedAfter, fine}
-use Rattle.sheet.proofs.Chains.{Alike, pass, passed, limits-alike, lists-alike}
-use Rattle.sheet.proofs.Judged.{line-few}
+use Rattle.sheet.specs.Complete.{completed, finishOf, completeOf, completedAfter}
+use Rattle.sheet.proofs.SheetRefusals.{tested-alike}
+use Rattle.sheet.proofs.AcceptedLists.{line-few}
 use Rattle.sheet.proofs.SheetOf.{has-room, line-is, as-lists, within-limits, samples-of, smoothing-of, lengths-of, totals-of, length-of, accepts}
 
 -- ---- the lists with the line of their series are accepted
 module _ (ys : List ℤ) (L : ℕ) (ok : Limited ys L) where
   abbrev tested : Answer (Unit {0})
-  tested = meets-conditions ys L (lens (plain-line (pos L) ys)) (Plain.totals (plain-line (pos L) ys)) fine
+  tested = meets-conditions ys L (line-lengths (plain-line (pos L) ys)) (Plain.line-totals (plain-line (pos L) ys)) passing
 
-  check : in-limits ys L tested ≡ fine
-  check = passes-line↔ ys L (lens (plain-line (pos L) ys)) (Plain.totals (plain-line (pos L) ys)) .1 (ok, refl, refl)
+  check : in-limits ys L tested ≡ passing
+  check = passes-line↔ ys L (line-lengths (plain-line (pos L) ys)) (Plain.line-totals (plain-line (pos L) ys)) .1 (ok, refl, refl)
 
-  either-way : (t : Bool) → in-limits ys L (unless t tested fine) ≡ fine
-  either-way true = let p : Alike tested fine tested fine = pass in passed (limits-alike p ys L) check .1
+  either-way : (t : Bool) → in-limits ys L (unless t tested passing) ≡ passing
+  either-way true = let p : Alike tested passing tested passing = pass in passed (limits-alike ys L p) check .1
   either-way false = check
 
-  line-accepted : in-limits ys L (filed ys L (lens (plain-line (pos L) ys)) (Plain.totals (plain-line (pos L) ys)) fine) ≡ fine
-  line-accepted = either-way (eqb (length (lens (plain-line (pos L) ys))) 0 && eqb (length (Plain.totals (plain-line (pos L) ys))) 0)
+  line-accepted : in-limits ys L (filed ys L (line-lengths (plain-line (pos L) ys)) (Plain.line-totals (plain-line (pos L) ys)) passing) ≡ passing
+  line-accepted = either-way (eqb (length (line-lengths (plain-line (pos L) ys))) 0 && eqb (length (Plain.line-totals (plain-line (pos L) ys))) 0)
 
 -- ---- what was completed
 pub record Completed (s o : List ℕ) : Type 0 where
@@ -54,7 +57,7 @@ pub record Completed (s o : List ℕ) : Type 0 where
   pub only : Only (samples s) (smoothing s) (lengths o) (totals o)
   pub least : Least (samples s) (smoothing s) (filed-line o)
   -- every reader accepts it, and completing it again writes the same bytes
-  pub accepted-again : accepted o fine ≡ fine
+  pub accepted-again : accepted o passing ≡ passing
   pub completed-again : completed (samples o) (smoothing o) ≡ o
 
 sheet-completed : (s : List ℕ) → Limited (samples s) (smoothing s) → Completed s (completed (samples s) (smoothing s))
@@ -73,7 +76,7 @@ sheet-completed s ok =
       meets = line-meets ys L (filed-line o) line;
       only = λ ns ts p h. unique-lists (pos L) ys ns (lengths o) ts (totals o) (0⩽pos L) p same (meets-line ys L (segments ns ts) h) line;
       least = line-least ys L (filed-line o) line;
-      accepted-again = accepts ys L _ _ a fine;
+      accepted-again = accepts ys L _ _ a passing;
       completed-again = ap₂ completed (samples-of ys L _ _ a) (smoothing-of ys L _ _ a);
     }
 
@@ -81,8 +84,8 @@ module _ (s out : List ℕ) (b : ℕ) (e : completeOf s out ≡ given b) where
   order : InOrder s × (in-limits (samples s) (smoothing s) (filed (samples s) (smoothing s) (lengths s) (totals s) (finishOf (samples s) (smoothing s) out)) ≡ given b)
   order = HeadLaws.passed s _ b e
 
-  lists : (finishOf (samples s) (smoothing s) out ≡ given b) × (in-limits (samples s) (smoothing s) (filed (samples s) (smoothing s) (lengths s) (totals s) fine) ≡ fine)
-  lists = passed (lists-alike (samples s) (smoothing s) (lengths s) (totals s)) (order .1)
+  lists : (finishOf (samples s) (smoothing s) out ≡ given b) × (in-limits (samples s) (smoothing s) (filed (samples s) (smoothing s) (lengths s) (totals s) passing) ≡ passing)
+  lists = passed (tested-alike (samples s) (smoothing s) (lengths s) (totals s)) (order .1)
 
   limited : Limited (samples s) (smoothing s)
   limited = within-limits (samples s) (smoothing s) (lengths s) (totals s) (lists .1)

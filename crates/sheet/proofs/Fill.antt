@@ -6,7 +6,7 @@ use native.Mathlib.Numerals.{add-one}
 use native.Mathlib.Omega.{arith}
 use lib.ListN.{length, take, drop, set, getD, length-set}
 use lib.Seq.{drop-cons, drop-drop, set-at, append-snoc, take-suc, take-length, length-take-le}
-use Rattle.denoise.specs.Limits.{refill}
+use Rattle.series.specs.Answer.{refill}
 use Rattle.sheet.specs.Format.{records}
 use Rattle.sheet.specs.ListLaws.{length-records, records-last}
 

@@ -1,9 +1,9 @@
 -- What the functions' proofs share, and the laws of the calls.
 pub mod Fill
 pub mod Writes
-pub mod Chains
+pub mod SheetRefusals
 pub mod LoadLaws
-pub mod Judged
+pub mod AcceptedLists
 pub mod OwnLine
 pub mod PlaceLaws
 pub mod SheetOf

@@ -8,7 +8,9 @@ use lib.IntN.{ℤ, pos}
 use Rattle.optimality.specs.Segments.{Segment}
 use Rattle.optimality.specs.Machine.{plain-line}
 use Rattle.level.specs.Answer.{Answer, refused, given}
-use Rattle.denoise.specs.Limits.{in-limits, refill, on-success}
+use Rattle.series.specs.Limits.{in-limits}
+use Rattle.series.specs.Answer.{refill, on-success}
+use Rattle.series.proofs.Refusals.{stopped, passed}
 use Rattle.sheet.specs.Answer.{fields}
 use Rattle.sheet.specs.Format.{minutes, segment-count, smoothing, samples, lengths, totals, read-sample, read-length, read-total, size, sheet-bytes}
 use Rattle.sheet.specs.HeadLaws.{InOrder}
@@ -18,7 +20,7 @@ use Rattle.sheet.specs.Read.{filed, with-room, readOf, samplesAfter, len
 use Rattle.sheet.specs.Write.{room}
 use Rattle.sheet.specs.Complete.{finishOf, completeOf, completedAfter, Has}
 use Rattle.sheet.specs.declared.Fields.{Fields}
-use Rattle.sheet.proofs.Chains.{stopped, passed, lists-alike}
+use Rattle.sheet.proofs.SheetRefusals.{tested-alike}
 
 module _ (s : List ℕ) (f : Fields) (e : f ≡ fields s) where
   module _ (ys ys₀ : List ℤ) (h : ys ≡ samples s ++ drop (minutes s) ys₀) where
@@ -61,11 +63,11 @@ module _ (s : List ℕ) (f : Fields) (e : f ≡ fields s) where
       by-tests = rw (ey, en, et, e) (HeadLaws.passes s _ o)
 
       pub line-refused : {number place : ℕ} → tested (given (length l)) ≡ refused number place → completeOf s out ≡ refused number place
-      line-refused q = by-tests ∙ stopped (lists-alike ys (f .smoothing) ns ts) q
+      line-refused q = by-tests ∙ stopped (tested-alike ys (f .smoothing) ns ts) q
 
       module _ (m : ℕ) (q : tested (given (length l)) ≡ given m) (r : Answer ℕ) (out′ : List ℕ) (ns′ : List ℕ) (ts′ : List ℤ) (has : Has l m ns′ ts′) where
         finishes : completeOf s out ≡ room out (size (length ys) (length (take m ns′)))
-        finishes = by-tests ∙ passed (lists-alike ys (f .smoothing) ns ts) q .1 ∙ rw (has .lengths, length-map l _)
+        finishes = by-tests ∙ passed (tested-alike ys (f .smoothing) ns ts) q .1 ∙ rw (has .lengths, length-map l _)
 
         pub completes : (r ≡ room out (size (length ys) (length (take m ns′)))) × (out′ ≡ on-success r (refill (sheet-bytes ys (f .smoothing) (take m ns′) (take m ts′)) out) out)
             → (r ≡ completeOf s out) × (out′ ≡ completedAfter s out)

@@ -9,24 +9,25 @@ use lib.Seq.{length-take-le}
 use lib.IntN.{ℤ, pos}
 use borrow.Author.Tests.{le-ltb}
 use Rattle.optimality.specs.Segments.{Segment}
-use Rattle.optimality.specs.Plain.{lens, totals}
+use Rattle.optimality.specs.Plain.{line-lengths, line-totals}
 use Rattle.optimality.specs.Machine.{plain-line}
 use Rattle.level.specs.Answer.{Answer, refused, given, when-given}
-use Rattle.denoise.specs.Limits.{in-limits}
+use Rattle.series.specs.Limits.{in-limits}
 use Rattle.denoise.specs.Line.{lineOf, lengthsOf, totalsOf}
-use Rattle.denoise.proofs.Admitted.{within}
 use Rattle.denoise.proofs.LineLaws.{lists, lengths-are, totals-are}
+use Rattle.series.specs.Answer.{passing}
+use Rattle.series.proofs.Refusals.{passed}
 use Rattle.sheet.specs.Read.{filed}
-use Rattle.sheet.specs.Complete.{fine, Has}
-use Rattle.sheet.proofs.Chains.{passed, lists-alike}
-use Rattle.sheet.proofs.Judged.{line-few, judged}
+use Rattle.sheet.specs.Complete.{Has}
+use Rattle.sheet.proofs.SheetRefusals.{tested-alike}
+use Rattle.sheet.proofs.AcceptedLists.{line-few, accepted-lists}
 
 module _ (ys : List ℤ) (L : ℕ) where
   abbrev l : List Segment
   l = plain-line (pos L) ys
 
   -- two lists that begin with the line of a series that is not empty
-  pub has : (m : ℕ) (ns : List ℕ) (ts : List ℤ) → 0 < length ys → length ys ≤ 65536 → m ≡ length l → take m ns ≡ lens l → take m ts ≡ totals l → Has l m ns ts
+  pub has : (m : ℕ) (ns : List ℕ) (ts : List ℤ) → 0 < length ys → length ys ≤ 65536 → m ≡ length l → take m ns ≡ line-lengths l → take m ts ≡ line-totals l → Has l m ns ts
   has m ns ts some few e p q =
       let fewer = line-few ys L some in
       let a : length (take m ns) ≡ m = ap length p ∙ length-map l _ ∙ sym e in
@@ -63,11 +64,11 @@ module _ (ys : List ℤ) (L : ℕ) where
         go (given m) e = drawn-has m ns′ ts′ e p q
 
     -- ---- filed
-    pub filed-line : (k : ℕ) → 0 < k → k ≤ length ns → k ≤ length ts → in-limits ys L (filed ys L (take k ns) (take k ts) fine) ≡ fine → Answered k (given k) ns ts
+    pub filed-line : (k : ℕ) → 0 < k → k ≤ length ns → k ≤ length ts → in-limits ys L (filed ys L (take k ns) (take k ts) passing) ≡ passing → Answered k (given k) ns ts
     filed-line k h hn ht e =
-        let j = judged ys L (take k ns) (take k ts) e in
-        let w = within ys L (j .limited) in
+        let j = accepted-lists ys L (take k ns) (take k ts) e in
+        let w = j .limited in
         let n = length-take-le k ns hn in
-        let o : (take k ns ≡ lens l) × (take k ts ≡ totals l) = ⊎-elim (λ z. absurd (omega (arith, z .0))) (λ z. z) (j .line) in
+        let o : (take k ns ≡ line-lengths l) × (take k ts ≡ line-totals l) = ⊎-elim (λ z. absurd (omega (arith, z .0))) (λ z. z) (j .line) in
         let c : k ≡ length l = sym n ∙ ap length (o .0) ∙ length-map l _ in
-        (sym (passed (lists-alike ys L (take k ns) (take k ts)) e .1 ∙ ap given (sym c)), has k ns ts (w .some) (j .few) c (o .0) (o .1))
+        (sym (passed (tested-alike ys L (take k ns) (take k ts)) e .1 ∙ ap given (sym c)), has k ns ts (w .some) (w .few) c (o .0) (o .1))

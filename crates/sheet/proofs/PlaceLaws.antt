@@ -1,7 +1,6 @@
 -- Where the refusals of sheets stand: at most at 65,536; of lists that are to be written, at most at as many as a line's list has entries.
 use mathlib.Core.Bool.{Bool, true, false, not, _||_, _&&_}
 use mathlib.Core.List.{List}
-use mathlib.Core.Option.{Option}
 use Prim.Native.Nat.{ℕ, _≤_}
 use native.Mathlib.Omega.{arith}
 use borrow.Author.Tests.{ltb-false}
@@ -11,25 +10,22 @@ use lib.IntN.{ℤ, pos}
 use Rattle.codec.specs.LittleEndian.{getUnsigned}
 use Rattle.optimality.specs.Machine.{plain-line}
 use Rattle.level.specs.Answer.{Answer}
-use Rattle.denoise.proofs.PlaceLaws.{Placed, fine, Upto, nothing, something, if-placed, at-placed, limits-placed, meets-placed}
+use Rattle.series.proofs.PlaceLaws.{Placed, unrefused, nothing, if-placed, at-placed, found-upto, limits-placed}
+use Rattle.checker.proofs.PlaceLaws.{meets-placed}
 use Rattle.sheet.specs.Format.{minutes, segment-count, smoothing, read-length, line-offset, samples, lengths, totals, size}
-use Rattle.sheet.specs.Head.{differs, well-headed}
+use Rattle.sheet.specs.Head.{well-headed}
 use Rattle.sheet.specs.ListLaws.{length-records}
 use Rattle.sheet.specs.Read.{unless, filed, accepted, readOf}
 use Rattle.sheet.specs.Write.{room, writeOf}
 use Rattle.sheet.specs.Complete.{completeOf}
 
 module _ {most : ℕ} where
-  differs-upto : {rest : Option ℕ} (t : Bool) {byte : ℕ} → byte ≤ most → Upto most rest → Upto most (differs t byte rest)
-  differs-upto true h r = something h
-  differs-upto false h r = r
-
   unless-placed : {A : Type 0} {tested rest : Answer A} (t : Bool) → Placed most tested → Placed most rest → Placed most (unless t tested rest)
   unless-placed true p q = q
   unless-placed false p q = p
 
   room-placed : (out : List ℕ) (bytes : ℕ) → Placed most (room out bytes)
-  room-placed out bytes = if-placed (omega arith) (ltb (length out) bytes) (omega arith) (λ _. fine)
+  room-placed out bytes = if-placed (omega arith) (ltb (length out) bytes) (omega arith) (λ _. unrefused)
 
   filed-placed : {A : Type 0} {rest : Answer A} (ys : List ℤ) (L : ℕ) (ns : List ℕ) (ts : List ℤ)
       → length ys ≤ most → length ns ≤ most → Placed most rest → Placed most (filed ys L ns ts rest)
@@ -46,10 +42,10 @@ module _ {A : Type 0} {rest : Answer A} (s : List ℕ) where
       if-placed (omega arith) (ltb 65536 N) (omega arith) (λ few.
       if-placed (omega arith) (ltb N M) (omega arith) (λ fewer.
       at-placed (omega arith)
-      (differs-upto (not (eqb (getUnsigned 4 s 8) 32)) (omega arith)
-      (differs-upto (not (eqb (getUnsigned 4 s 12) (line-offset N))) (omega arith)
-      (differs-upto (not (eqb (getUnsigned 4 s 24) (size N M)) || not (eqb (getUnsigned 4 s 24) (length s))) (omega arith)
-      (differs-upto (not (eqb (getUnsigned 4 s 28) 0)) (omega arith) nothing))))
+      (found-upto (not (eqb (getUnsigned 4 s 8) 32)) 8 (omega arith)
+      (found-upto (not (eqb (getUnsigned 4 s 12) (line-offset N))) 12 (omega arith)
+      (found-upto (not (eqb (getUnsigned 4 s 24) (size N M)) || not (eqb (getUnsigned 4 s 24) (length s))) 24 (omega arith)
+      (found-upto (not (eqb (getUnsigned 4 s 28) 0)) 28 (omega arith) nothing))))
       (p (omega (arith, ltb-false 65536 N few, ltb-false N M fewer)))))))
 
 accepted-placed : {A : Type 0} {rest : Answer A} (s : List ℕ) → Placed 65536 rest → Placed 65536 (accepted s rest)
@@ -64,7 +60,7 @@ pub read-placed : (s : List ℕ) (ys : List ℤ) (ns : List ℕ) (ts : List ℤ)
 read-placed s ys ns ts =
     let N = minutes s in
     accepted-placed s
-    (if-placed (omega arith) (ltb (length ys) N || (ltb (length ns) N || ltb (length ts) N)) (omega arith) (λ _. fine))
+    (if-placed (omega arith) (ltb (length ys) N || (ltb (length ns) N || ltb (length ts) N)) (omega arith) (λ _. unrefused))
 
 pub complete-placed : (s out : List ℕ) → Placed 65536 (completeOf s out)
 complete-placed s out = accepted-placed s (room-placed out (size (length (samples s)) (length (plain-line (pos (smoothing s)) (samples s)))))

@@ -12,32 +12,32 @@ use Rattle.optimality.specs.Series.{plain}
 use Rattle.optimality.specs.Segments.{IsLine}
 use Rattle.optimality.specs.Plain.{segments}
 use Rattle.level.specs.Answer.{Answer, refused, given, when-given}
-use Rattle.denoise.specs.Limits.{in-limits, refill, on-success}
-use Rattle.denoise.specs.Optimality.{Meets}
-use Rattle.denoise.proofs.OptimalityLaws.{line-meets, meets-line}
-use Rattle.denoise.proofs.Refusals.{never, if-past}
+use Rattle.series.specs.Limits.{in-limits}
+use Rattle.series.specs.Answer.{refill, on-success, passing}
+use Rattle.series.specs.Optimality.{Meets}
+use Rattle.series.proofs.OptimalityLaws.{line-meets, meets-line}
+use Rattle.series.proofs.Refusals.{never, if-past, same-given, passed}
 use Rattle.sheet.specs.Answer.{fields}
 use Rattle.sheet.specs.Format.{minutes, segment-count, smoothing, samples, lengths, totals, read-sample, read-length, read-total}
 use Rattle.sheet.specs.HeadLaws.{InOrder, or-false}
 use Rattle.sheet.specs.HeadLaws as HeadLaws
 use Rattle.sheet.specs.ListLaws.{length-records}
 use Rattle.sheet.specs.Read.{filed, accepted, readOf, samplesAfter, lengthsAfter, totalsAfter}
-use Rattle.sheet.specs.Complete.{fine}
 use Rattle.sheet.specs.declared.Fields.{Fields}
-use Rattle.sheet.proofs.Chains.{same-given, passed, accepted-alike}
-use Rattle.sheet.proofs.Judged.{Judged, judged}
+use Rattle.sheet.proofs.SheetRefusals.{accepted-alike}
+use Rattle.sheet.proofs.AcceptedLists.{Accepted, accepted-lists}
 use Rattle.sheet.proofs.SheetOf.{line-is, as-lists, within-limits}
 
 -- ---- a sheet that is accepted
-module _ (s : List ℕ) (a : accepted s fine ≡ fine) where
+module _ (s : List ℕ) (a : accepted s passing ≡ passing) where
   pub in-order : InOrder s
   in-order = HeadLaws.passed s _ tt a .0
 
-  pub lists-accepted : in-limits (samples s) (smoothing s) (filed (samples s) (smoothing s) (lengths s) (totals s) fine) ≡ fine
+  pub lists-accepted : in-limits (samples s) (smoothing s) (filed (samples s) (smoothing s) (lengths s) (totals s) passing) ≡ passing
   lists-accepted = HeadLaws.passed s _ tt a .1
 
-  pub judgement : Judged (samples s) (smoothing s) (lengths s) (totals s)
-  judgement = judged (samples s) (smoothing s) (lengths s) (totals s) lists-accepted
+  pub own-lists : Accepted (samples s) (smoothing s) (lengths s) (totals s)
+  own-lists = accepted-lists (samples s) (smoothing s) (lengths s) (totals s) lists-accepted
 
   pub own-line : 0 < segment-count s → Meets (samples s) (smoothing s) (segments (lengths s) (totals s))
   own-line m =
@@ -47,13 +47,13 @@ module _ (s : List ℕ) (a : accepted s fine ≡ fine) where
       let M : length (lengths s) ≡ segment-count s = length-records 12 read-length _ _ in
       ⊎-elim (λ z. absurd (omega arith))
       (λ z. subst (λ ss. Meets ys L ss) (as-lists ys L ok ∙ sym (ap₂ segments (z .0) (z .1))) (line-meets ys L _ (line-is ys L ok)))
-      (judgement .line)
+      (own-lists .line)
 
 -- ---- a call that is not refused
 module _ (s : List ℕ) (ys : List ℤ) (ns : List ℕ) (ts : List ℤ) where
   module _ (f : Fields) (e : readOf s ys ns ts ≡ given f) where
-    pub passes : accepted s fine ≡ fine
-    passes = passed (accepted-alike {y = fine} s) e .1
+    pub passes : accepted s passing ≡ passing
+    passes = passed (accepted-alike {y = passing} s) e .1
 
     -- what it gives, and the room that it found
     pub record Given : Type 0 where

@@ -11,30 +11,32 @@ use lib.Seq.{take-at}
 use lib.IntN.{ℤ}
 use Rattle.codec.specs.PlaceLaws.{Bytes}
 use Rattle.level.specs.Answer.{given}
-use Rattle.denoise.specs.Limits.{in-limits, refill}
+use Rattle.series.specs.Limits.{in-limits}
+use Rattle.series.specs.Answer.{refill, passing}
+use Rattle.series.proofs.Refusals.{passed}
 use Rattle.sheet.specs.Format.{minutes, segment-count, smoothing, samples, lengths, totals, size, sheet-bytes, read-sample, read-length}
-use Rattle.sheet.specs.HeadLaws.{none-differs}
+use Rattle.sheet.specs.HeadLaws.{none-wrong}
 use Rattle.sheet.specs.ListLaws.{length-records}
 use Rattle.sheet.specs.SheetLaws.{sheet-of-read}
 use Rattle.sheet.specs.Answer.{fields}
 use Rattle.sheet.specs.Read.{filed, accepted, with-room, readOf, samplesAfter, lengthsAfter, totalsAfter}
 use Rattle.sheet.specs.Write.{room, writeOf, writtenAfter}
-use Rattle.sheet.specs.Complete.{completed, finishOf, completeOf, completedAfter, fine}
+use Rattle.sheet.specs.Complete.{completed, finishOf, completeOf, completedAfter}
 use Rattle.sheet.specs.declared.Fields.{Fields}
-use Rattle.sheet.proofs.Chains.{passed, lists-alike, accepted-alike}
+use Rattle.sheet.proofs.SheetRefusals.{tested-alike, accepted-alike}
 use Rattle.sheet.proofs.SheetOf.{has-room, samples-of, smoothing-of, lengths-of, totals-of, length-of, accepts}
-use Rattle.sheet.proofs.ReadLaws.{in-order, lists-accepted, judgement, passes, found, samples-read, lengths-read, totals-read}
+use Rattle.sheet.proofs.ReadLaws.{in-order, lists-accepted, own-lists, passes, found, samples-read, lengths-read, totals-read}
 use Rattle.sheet.proofs.CompleteLaws.{Completed, completes, sized, bytes-count}
 
 -- ---- read, then written
-module _ (s : List ℕ) (bytes : Bytes s) (a : accepted s fine ≡ fine) where
+module _ (s : List ℕ) (bytes : Bytes s) (a : accepted s passing ≡ passing) where
   same-bytes : sheet-bytes (samples s) (smoothing s) (lengths s) (totals s) ≡ s
-  same-bytes = sheet-of-read s bytes (in-order s a .long) (none-differs s (in-order s a .table))
+  same-bytes = sheet-of-read s bytes (in-order s a .long) (none-wrong s (in-order s a .table))
 
   writes-back : (out : List ℕ) → length s ≤ length out → writeOf (samples s) (smoothing s) (lengths s) (totals s) out ≡ given (length s)
   writes-back out h =
       let n = length-of (samples s) (smoothing s) (lengths s) (totals s) (lists-accepted s a) in
-      passed (lists-alike (samples s) (smoothing s) (lengths s) (totals s)) (lists-accepted s a) .1
+      passed (tested-alike (samples s) (smoothing s) (lengths s) (totals s)) (lists-accepted s a) .1
       ∙ ap (room out) (sym n ∙ ap length same-bytes)
       ∙ rw (le-ltb (length out) (length s) h)
 
@@ -62,8 +64,8 @@ module _ (ys : List ℤ) (L : ℕ) (ns : List ℕ) (ts : List ℤ) (out : List �
   abbrev c : List ℕ
   c = sheet-bytes ys L ns ts
 
-  tests : (room out (size (length ys) (length ns)) ≡ given b) × (in-limits ys L (filed ys L ns ts fine) ≡ fine)
-  tests = passed (lists-alike {y = fine} ys L ns ts) e
+  tests : (room out (size (length ys) (length ns)) ≡ given b) × (in-limits ys L (filed ys L ns ts passing) ≡ passing)
+  tests = passed (tested-alike {y = passing} ys L ns ts) e
 
   sheet-written : take b (writtenAfter ys L ns ts out) ≡ c
   unfolding refill
@@ -100,13 +102,13 @@ module _ (ys : List ℤ) (L : ℕ) (ns : List ℕ) (ts : List ℤ) (out : List �
 module _ (s out : List ℕ) (b : ℕ) (e : completeOf s out ≡ given b) where
   -- a sheet with a line comes out as it was
   module _ (bytes : Bytes s) (some : 0 < segment-count s) where
-    a : accepted s fine ≡ fine
-    a = passed (accepted-alike {y = fine} s) e .1
+    a : accepted s passing ≡ passing
+    a = passed (accepted-alike {y = passing} s) e .1
 
     unchanged : completed (samples s) (smoothing s) ≡ s
     unchanged =
         let M : length (lengths s) ≡ segment-count s = length-records 12 read-length _ _ in
-        ⊎-elim (λ z. absurd (omega arith)) (λ z. sym (ap₂ (sheet-bytes (samples s) (smoothing s)) (z .0) (z .1)) ∙ same-bytes s bytes a) (judgement s a .line)
+        ⊎-elim (λ z. absurd (omega arith)) (λ z. sym (ap₂ (sheet-bytes (samples s) (smoothing s)) (z .0) (z .1)) ∙ same-bytes s bytes a) (own-lists s a .line)
 
     pub completed-same : (b ≡ length s) × (completedAfter s out ≡ refill s out)
     completed-same = (sym (bytes-count s out b e) ∙ ap length unchanged, rw (e, unchanged))

@@ -1,25 +1,22 @@
 -- A sheet's header: refusals 10, 1, 2, 11, 12, in that order (paper 01, "Sheets sent back").
-use mathlib.Core.Bool.{Bool, true, false, not, _||_}
+use mathlib.Core.Bool.{not, _||_}
 use mathlib.Core.List.{List}
-use mathlib.Core.Option.{Option, none, some}
+use mathlib.Core.Option.{Option, none}
 use Prim.Native.Nat.{ℕ}
 use lib.Dec.{eqb, ltb}
 use lib.ListN.{length}
 use Rattle.codec.specs.LittleEndian.{getUnsigned}
 use Rattle.level.specs.Answer.{Answer, refuse-if, refuse-at}
+use Rattle.series.specs.Search.{found}
 use Rattle.sheet.specs.Format.{minutes, segment-count, line-offset, size}
 
--- the first byte of a field that differs from the table; else the rest
-abbrev pub differs : Bool → ℕ → Option ℕ → Option ℕ
-differs true byte rest = some byte
-differs false byte rest = rest
-
+-- the first byte of the first field that differs from the table
 abbrev pub wrong-field : List ℕ → Option ℕ
 wrong-field s =
-    differs (not (eqb (getUnsigned 4 s 8) 32)) 8
-    (differs (not (eqb (getUnsigned 4 s 12) (line-offset (minutes s)))) 12
-    (differs (not (eqb (getUnsigned 4 s 24) (size (minutes s) (segment-count s))) || not (eqb (getUnsigned 4 s 24) (length s))) 24
-    (differs (not (eqb (getUnsigned 4 s 28) 0)) 28 none)))
+    found (not (eqb (getUnsigned 4 s 8) 32)) 8
+    (found (not (eqb (getUnsigned 4 s 12) (line-offset (minutes s)))) 12
+    (found (not (eqb (getUnsigned 4 s 24) (size (minutes s) (segment-count s))) || not (eqb (getUnsigned 4 s 24) (length s))) 24
+    (found (not (eqb (getUnsigned 4 s 28) 0)) 28 none)))
 
 -- then the rest
 abbrev pub well-headed : {A : Type 0} → List ℕ → Answer A → Answer A

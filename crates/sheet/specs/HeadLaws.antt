@@ -2,7 +2,7 @@
 use mathlib.Core.Path.{_≡_, refl, sym, _∙_}
 use mathlib.Core.Bool.{Bool, true, false, not, _||_}
 use mathlib.Core.List.{List}
-use mathlib.Core.Option.{Option, none, some}
+use mathlib.Core.Option.{none}
 use Prim.Native.Nat.{ℕ, _≤_}
 use native.Mathlib.Nat.{pos-of-ne-zero}
 use native.Mathlib.Omega.{arith}
@@ -10,9 +10,11 @@ use borrow.Author.Tests.{eq-eqb, ne-eqb, le-ltb, eqb-true, eqb-false, ltb-false,
 use lib.Dec.{eqb}
 use lib.ListN.{length}
 use Rattle.codec.specs.LittleEndian.{getUnsigned}
-use Rattle.level.specs.Answer.{Answer, given, refuse-if, refuse-at}
+use Rattle.level.specs.Answer.{Answer, given}
+use Rattle.series.proofs.SearchLaws.{none-found}
+use Rattle.series.proofs.Refusals.{never, if-past, at-past}
 use Rattle.sheet.specs.Format.{minutes, segment-count, line-offset, size}
-use Rattle.sheet.specs.Head.{differs, wrong-field, well-headed}
+use Rattle.sheet.specs.Head.{wrong-field, well-headed}
 
 -- the fields that the table fixes
 pub record AsInTable (s : List ℕ) : Type 0 where
@@ -29,11 +31,7 @@ pub record InOrder (s : List ℕ) : Type 0 where
   pub fewer : segment-count s ≤ minutes s
   pub table : AsInTable s
 
--- ---- what a chain that was passed says of its first test
-differs-none : (b : Bool) (byte : ℕ) (rest : Option ℕ) → differs b byte rest ≡ none → (b ≡ false) × (rest ≡ none)
-differs-none true byte rest e = absurd (let z : _≡_ {A = ℕ} 0 1 = cc in omega arith)
-differs-none false byte rest e = (refl, e)
-
+-- ---- what a test that was passed says
 pub or-false : (a b : Bool) → a || b ≡ false → (a ≡ false) × (b ≡ false)
 or-false true b e = absurd (let z : _≡_ {A = ℕ} 0 1 = cc in omega arith)
 or-false false b e = (refl, e)
@@ -41,26 +39,17 @@ or-false false b e = (refl, e)
 equal : (a b : ℕ) → not (eqb a b) ≡ false → a ≡ b
 equal a b e = eqb-true a b (not-false (eqb a b) e)
 
-module _ {A : Type 0} (number : ℕ) (rest : Answer A) (x : A) where
-  refuse-if-given : (b : Bool) (place : ℕ) → refuse-if b number place rest ≡ given x → (b ≡ false) × (rest ≡ given x)
-  refuse-if-given true place e = absurd (let z : _≡_ {A = ℕ} 0 1 = cc in omega arith)
-  refuse-if-given false place e = (refl, e)
-
-  refuse-at-given : (o : Option ℕ) → refuse-at o number rest ≡ given x → (o ≡ none) × (rest ≡ given x)
-  refuse-at-given (some place) e = absurd (let z : _≡_ {A = ℕ} 0 1 = cc in omega arith)
-  refuse-at-given none e = (refl, e)
-
 module _ (s : List ℕ) where
-  pub none-differs : AsInTable s → wrong-field s ≡ none
-  none-differs t =
+  pub none-wrong : AsInTable s → wrong-field s ≡ none
+  none-wrong t =
       simp (eq-eqb _ _ (t .field-8), eq-eqb _ _ (t .field-12), eq-eqb _ _ (t .field-24), eq-eqb _ _ (t .all), eq-eqb _ _ (t .field-28))
 
   pub as-in-table : wrong-field s ≡ none → AsInTable s
   as-in-table e =
-      let d8 = differs-none _ 8 _ e in
-      let d12 = differs-none _ 12 _ (d8 .1) in
-      let d24 = differs-none _ 24 _ (d12 .1) in
-      let d28 = differs-none _ 28 _ (d24 .1) in
+      let d8 = none-found _ 8 _ e in
+      let d12 = none-found _ 12 _ (d8 .1) in
+      let d24 = none-found _ 24 _ (d12 .1) in
+      let d28 = none-found _ 28 _ (d24 .1) in
       let both = or-false _ _ (d24 .0) in
       record {
         field-8 = equal _ _ (d8 .0);
@@ -76,15 +65,15 @@ module _ (s : List ℕ) where
   module _ {A : Type 0} (rest : Answer A) where
     pub passes : InOrder s → well-headed s rest ≡ rest
     passes o =
-        simp (le-ltb _ _ (o .long), ne-eqb (minutes s) 0 (λ e. omega (arith, o .some)), le-ltb _ _ (o .few), le-ltb _ _ (o .fewer), none-differs (o .table))
+        simp (le-ltb _ _ (o .long), ne-eqb (minutes s) 0 (λ e. omega (arith, o .some)), le-ltb _ _ (o .few), le-ltb _ _ (o .fewer), none-wrong (o .table))
 
     pub passed : (x : A) → well-headed s rest ≡ given x → InOrder s × (rest ≡ given x)
     passed x e =
-        let r10 = refuse-if-given 10 _ x _ 0 e in
-        let r1 = refuse-if-given 1 _ x _ 0 (r10 .1) in
-        let r2 = refuse-if-given 2 _ x _ 0 (r1 .1) in
-        let r11 = refuse-if-given 11 _ x _ 4 (r2 .1) in
-        let r12 = refuse-at-given 12 rest x (wrong-field s) (r11 .1) in (
+        let r10 = if-past _ never e in
+        let r1 = if-past _ never (r10 .1) in
+        let r2 = if-past _ never (r1 .1) in
+        let r11 = if-past _ never (r2 .1) in
+        let r12 = at-past (wrong-field s) (λ place q. never q) (r11 .1) in (
           record {
             long = ltb-false _ _ (r10 .0);
             some = pos-of-ne-zero (eqb-false _ _ (r1 .0));

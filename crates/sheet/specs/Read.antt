@@ -6,8 +6,9 @@ use lib.Dec.{eqb, ltb}
 use lib.ListN.{length}
 use lib.IntN.{ℤ}
 use Rattle.level.specs.Answer.{Answer, given, refuse-if}
-use Rattle.denoise.specs.Limits.{in-limits, refill, on-success}
-use Rattle.denoise.specs.Check.{meets-conditions}
+use Rattle.series.specs.Limits.{in-limits}
+use Rattle.series.specs.Answer.{refill, on-success}
+use Rattle.checker.specs.Check.{meets-conditions}
 use Rattle.sheet.specs.Format.{smoothing, samples, lengths, totals}
 use Rattle.sheet.specs.Head.{well-headed}
 use Rattle.sheet.specs.Answer.{fields}

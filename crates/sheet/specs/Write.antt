@@ -5,7 +5,8 @@ use lib.Dec.{ltb}
 use lib.ListN.{length}
 use lib.IntN.{ℤ}
 use Rattle.level.specs.Answer.{Answer, refused, given, refuse-if}
-use Rattle.denoise.specs.Limits.{in-limits, refill, on-success}
+use Rattle.series.specs.Limits.{in-limits}
+use Rattle.series.specs.Answer.{refill, on-success}
 use Rattle.sheet.specs.Format.{size, sheet-bytes}
 use Rattle.sheet.specs.Read.{filed}
 use Rattle.sheet.specs.declared.Written.{Written}

@@ -5,19 +5,21 @@ ghost use lib.ListN.{length, take};
 ghost use lib.IntN.{pos};
 ghost use Rattle.optimality.specs.Machine.{plain-line};
 ghost use Rattle.level.specs.Answer.{given, when-given};
-ghost use Rattle.denoise.specs.Limits.{in-limits};
+ghost use Rattle.series.specs.Limits.{in-limits};
 ghost use Rattle.denoise.specs.Line.{drawn};
 ghost use Rattle.sheet.specs.Answer.{fields};
 ghost use Rattle.sheet.specs.HeadLaws.{InOrder};
 ghost use Rattle.sheet.specs.Read.{filed};
 ghost use Rattle.sheet.specs.Write.{written};
 ghost use Rattle.sheet.specs.Complete.{completeOf, completedAfter, Has};
+use super::DAY;
 use super::Fields;
 use super::Written;
 use super::loading;
 use super::writer;
-use denoise::Checked;
 use denoise::Drawn;
+use series::Checked;
+use series::MINUTES;
 
 // With a header in order, of a sheet of up to a day.
 pub(crate) fn complete_small(sheet: &[u8], f: Fields, out: &mut [u8]) -> Written
@@ -27,9 +29,9 @@ pub(crate) fn complete_small(sheet: &[u8], f: Fields, out: &mut [u8]) -> Written
     ensures { λ r. ⌜ written r ≡ completeOf (now (sheet .entry)) (now (out .entry)) ⌝ }
     ensures { λ r. ⌜ now (out .exit) ≡ completedAfter (now (sheet .entry)) (now (out .entry)) ⌝ }
 {
-    let mut ys = [0i32; 1440];
-    let mut ns = [0u32; 1440];
-    let mut ts = [0i64; 1440];
+    let mut ys = [0i32; DAY];
+    let mut ns = [0u32; DAY];
+    let mut ts = [0i64; DAY];
     complete_lists(sheet, f, out, &mut ys, &mut ns, &mut ts)
 }
 
@@ -40,9 +42,9 @@ pub(crate) fn complete_large(sheet: &[u8], f: Fields, out: &mut [u8]) -> Written
     ensures { λ r. ⌜ written r ≡ completeOf (now (sheet .entry)) (now (out .entry)) ⌝ }
     ensures { λ r. ⌜ now (out .exit) ≡ completedAfter (now (sheet .entry)) (now (out .entry)) ⌝ }
 {
-    let mut ys = [0i32; 65536];
-    let mut ns = [0u32; 65536];
-    let mut ts = [0i64; 65536];
+    let mut ys = [0i32; MINUTES];
+    let mut ns = [0u32; MINUTES];
+    let mut ts = [0i64; MINUTES];
     complete_lists(sheet, f, out, &mut ys, &mut ns, &mut ts)
 }
 
@@ -87,7 +89,7 @@ fn line(f: Fields, ys: &[i32], ns: &mut [u32], ts: &mut [i64]) -> Drawn
         return denoise::line(ys, f.smoothing, ns, ts);
     }
     let m = f.segments as usize;
-    match loading::judge(ys, f.smoothing, &ns[..m], &ts[..m]) {
+    match loading::check_filed(ys, f.smoothing, &ns[..m], &ts[..m]) {
         Checked::Refused(number, place) => Drawn::Refused(number, place),
         Checked::Passed => Drawn::Segments(f.segments),
     }

@@ -10,6 +10,7 @@ ghost use Rattle.sheet.specs.Head.{wrong-field, well-headed};
 use super::Fields;
 use super::Reading;
 use super::numbers;
+use level::Level;
 
 // 10, 1, 2, 11 and 12, in this order.
 pub(crate) fn read_header(sheet: &[u8]) -> Reading
@@ -22,7 +23,7 @@ pub(crate) fn read_header(sheet: &[u8]) -> Reading
     if n == 0 {
         return Reading::Refused(1, 0);
     }
-    if n > 65_536 {
+    if n > Level::MINUTES {
         return Reading::Refused(2, 0);
     }
     let m = numbers::get_u32(sheet, 4);

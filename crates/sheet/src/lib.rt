@@ -4,7 +4,7 @@ ghost use Prim.Native.Nat.{_<_};
 ghost use lib.ListN.{take};
 ghost use Rattle.optimality.specs.Plain.{segments};
 ghost use Rattle.level.specs.Answer.{when-given};
-ghost use Rattle.denoise.specs.Optimality.{Meets, Only, Least};
+ghost use Rattle.series.specs.Optimality.{Meets, Only, Least};
 ghost use Rattle.sheet.specs.Answer.{headed};
 ghost use Rattle.sheet.specs.Format.{smoothing, samples, lengths, totals, filed-line};
 ghost use Rattle.sheet.specs.Read.{readOf, samplesAfter, lengthsAfter, totalsAfter};
@@ -19,10 +19,10 @@ mod numbers;
 mod reader;
 mod writer;
 
-use denoise::Checked;
+use series::Checked;
 
 // The minutes of a day: a sheet of no more is read and completed in little memory.
-const DAY: u32 = 1_440;
+pub(crate) const DAY: usize = 1_440;
 
 // What a sheet's header says: N, M and the smoothing L.
 pub struct Fields {
@@ -54,7 +54,7 @@ pub fn read(sheet: &[u8], samples: &mut [i32], lengths: &mut [u32], totals: &mut
     match header::read_header(sheet) {
         Reading::Refused(number, place) => Reading::Refused(number, place),
         Reading::Valid(f) => {
-            if f.minutes <= DAY {
+            if f.minutes <= DAY as u32 {
                 return reader::read_small(sheet, f, samples, lengths, totals);
             }
             reader::read_large(sheet, f, samples, lengths, totals)
@@ -73,7 +73,7 @@ pub fn write(
     ensures answer { λ r. ⌜ written r ≡ writeOf (now (samples .entry)) smoothing (now (lengths .entry)) (now (totals .entry)) (now (out .entry)) ⌝ }
     ensures out { λ r. ⌜ now (out .exit) ≡ writtenAfter (now (samples .entry)) smoothing (now (lengths .entry)) (now (totals .entry)) (now (out .entry)) ⌝ }
 {
-    match loading::judge(samples, smoothing, lengths, totals) {
+    match loading::check_filed(samples, smoothing, lengths, totals) {
         Checked::Refused(number, place) => Written::Refused(number, place),
         Checked::Passed => writer::put_sheet(samples, smoothing, lengths, totals, out),
     }
@@ -91,7 +91,7 @@ pub fn complete(sheet: &[u8], out: &mut [u8]) -> Written
     match header::read_header(sheet) {
         Reading::Refused(number, place) => Written::Refused(number, place),
         Reading::Valid(f) => {
-            if f.minutes <= DAY {
+            if f.minutes <= DAY as u32 {
                 return completing::complete_small(sheet, f, out);
             }
             completing::complete_large(sheet, f, out)

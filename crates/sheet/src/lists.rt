@@ -4,7 +4,7 @@ ghost use mathlib.Core.List.{_++_};
 ghost use Prim.Native.Nat.{_+_, _*_, _≤_};
 ghost use lib.ListN.{length, drop};
 ghost use Rattle.codec.specs.Place.{overwrite};
-ghost use Rattle.denoise.specs.Limits.{refill};
+ghost use Rattle.series.specs.Answer.{refill};
 ghost use Rattle.sheet.specs.Format.{records, read-sample, read-length, read-total, line-offset, sample-bytes, segment-bytes};
 use super::numbers;
 

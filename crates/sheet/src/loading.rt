@@ -1,29 +1,34 @@
-// A sheet's lists, decoded from its bytes and judged.
+// A sheet's lists, decoded from its bytes and checked.
 ghost use mathlib.Core.Path.{_≡_};
 ghost use mathlib.Core.List.{_++_};
 ghost use Prim.Native.Nat.{_≤_};
 ghost use lib.ListN.{length, drop};
 ghost use Rattle.level.specs.Answer.{given};
-ghost use Rattle.denoise.specs.Limits.{in-limits};
-ghost use Rattle.denoise.specs.Check.{checked};
+ghost use Rattle.series.specs.Limits.{in-limits};
+ghost use Rattle.series.specs.Answer.{checked};
 ghost use Rattle.sheet.specs.Answer.{fields};
 ghost use Rattle.sheet.specs.Format.{minutes, segment-count, smoothing, samples, lengths, totals};
 ghost use Rattle.sheet.specs.HeadLaws.{InOrder};
 ghost use Rattle.sheet.specs.Read.{filed};
 use super::Fields;
 use super::lists;
-use denoise::Checked;
+use series::Checked;
 
 // 1, 2, 4, 3 for a series, then 6 to 9 for its line unless both line lists are empty.
-pub(crate) fn judge(samples: &[i32], smoothing: u64, lengths: &[u32], totals: &[i64]) -> Checked
+pub(crate) fn check_filed(
+    samples: &[i32],
+    smoothing: u64,
+    lengths: &[u32],
+    totals: &[i64],
+) -> Checked
     ensures { λ r. ⌜ checked r ≡ in-limits (now (samples .entry)) smoothing (filed (now (samples .entry)) smoothing (now (lengths .entry)) (now (totals .entry)) (given tt)) ⌝ }
 {
     if lengths.len() == 0 {
         if totals.len() == 0 {
-            return denoise::series(samples, smoothing);
+            return series::limits(samples, smoothing);
         }
     }
-    denoise::check(samples, smoothing, lengths, totals)
+    checker::check(samples, smoothing, lengths, totals)
 }
 
 // The lists of a sheet with a header in order, in the first entries of three lists.

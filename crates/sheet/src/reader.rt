@@ -1,16 +1,19 @@
-// Reading: the lists are judged in memory of the call's own, since a refusal leaves what is lent as it was, and copied where they are accepted.
+// Reading: the lists are checked in memory of the call's own, since a refusal leaves what is lent as it was, and copied where they are accepted.
 ghost use mathlib.Core.Path.{_≡_};
 ghost use Prim.Native.Nat.{_≤_};
 ghost use lib.ListN.{length};
-ghost use Rattle.denoise.specs.Limits.{in-limits, refill, on-success};
+ghost use Rattle.series.specs.Limits.{in-limits};
+ghost use Rattle.series.specs.Answer.{refill, on-success};
 ghost use Rattle.sheet.specs.Answer.{fields, headed};
 ghost use Rattle.sheet.specs.HeadLaws.{InOrder};
 ghost use Rattle.sheet.specs.Read.{filed, with-room, readOf, samplesAfter, lengthsAfter, totalsAfter};
+use super::DAY;
 use super::Fields;
 use super::Reading;
 use super::lists;
 use super::loading;
-use denoise::Checked;
+use series::Checked;
+use series::MINUTES;
 
 // With a header in order, of a sheet of up to a day.
 pub(crate) fn read_small(
@@ -28,9 +31,9 @@ pub(crate) fn read_small(
     ensures { λ r. ⌜ now (lengths .exit) ≡ lengthsAfter (now (sheet .entry)) (now (samples .entry)) (now (lengths .entry)) (now (totals .entry)) ⌝ }
     ensures { λ r. ⌜ now (totals .exit) ≡ totalsAfter (now (sheet .entry)) (now (samples .entry)) (now (lengths .entry)) (now (totals .entry)) ⌝ }
 {
-    let mut ys = [0i32; 1440];
-    let mut ns = [0u32; 1440];
-    let mut ts = [0i64; 1440];
+    let mut ys = [0i32; DAY];
+    let mut ns = [0u32; DAY];
+    let mut ts = [0i64; DAY];
     read_lists(
         sheet,
         f,
@@ -58,9 +61,9 @@ pub(crate) fn read_large(
     ensures { λ r. ⌜ now (lengths .exit) ≡ lengthsAfter (now (sheet .entry)) (now (samples .entry)) (now (lengths .entry)) (now (totals .entry)) ⌝ }
     ensures { λ r. ⌜ now (totals .exit) ≡ totalsAfter (now (sheet .entry)) (now (samples .entry)) (now (lengths .entry)) (now (totals .entry)) ⌝ }
 {
-    let mut ys = [0i32; 65536];
-    let mut ns = [0u32; 65536];
-    let mut ts = [0i64; 65536];
+    let mut ys = [0i32; MINUTES];
+    let mut ns = [0u32; MINUTES];
+    let mut ts = [0i64; MINUTES];
     read_lists(
         sheet,
         f,
@@ -119,7 +122,7 @@ fn fill(
     ensures { λ r. ⌜ now (lengths .exit) ≡ on-success (headed r) (refill (now (ns .entry)) (now (lengths .entry))) (now (lengths .entry)) ⌝ }
     ensures { λ r. ⌜ now (totals .exit) ≡ on-success (headed r) (refill (now (ts .entry)) (now (totals .entry))) (now (totals .entry)) ⌝ }
 {
-    match loading::judge(ys, f.smoothing, ns, ts) {
+    match loading::check_filed(ys, f.smoothing, ns, ts) {
         Checked::Refused(number, place) => {
             return Reading::Refused(number, place);
         }

@@ -3,7 +3,7 @@ ghost use mathlib.Core.Path.{_≡_};
 ghost use mathlib.Core.List.{_++_};
 ghost use Prim.Native.Nat.{_≤_};
 ghost use lib.ListN.{length, drop};
-ghost use Rattle.denoise.specs.Limits.{refill, on-success};
+ghost use Rattle.series.specs.Answer.{refill, on-success};
 ghost use Rattle.sheet.specs.Format.{size, sheet-bytes};
 ghost use Rattle.sheet.specs.Write.{written, room};
 use super::Written;

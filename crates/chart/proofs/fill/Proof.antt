@@ -6,7 +6,7 @@ use Prim.Native.Nat.{suc, _+_, _-_, _≤_}
 use lib.ListN.{length, getD, take}
 use Rattle.level.specs.Limits.{Valid}
 use Rattle.level.specs.declared.Level.{Level}
-use Rattle.denoise.specs.Shape.{sum}
+use Rattle.chart.specs.Drawable.{sum}
 use Rattle.chart.proofs.Sums.{sum-next, sum-part}
 use Rattle.chart.proofs.Listed.{Left, left-all, left-next, left-none}
 use Rattle.chart.proofs.fill.Statement.{statement}

@@ -5,7 +5,7 @@ use native.Mathlib.Omega.{arith}
 use Prim.Native.Nat.{suc, _-_, _+_, _≤_}
 use lib.ListN.{length}
 use Rattle.level.specs.Limits.{Valid}
-use Rattle.denoise.specs.Shape.{sum}
+use Rattle.chart.specs.Drawable.{sum}
 use Rattle.chart.specs.Chart.{segment-at}
 use Rattle.chart.proofs.Sums.{sum-next, sum-part}
 use Rattle.chart.proofs.Found.{segment-found, segment-lacks}

@@ -10,7 +10,7 @@ use Rattle.level.specs.Limits.{Valid}
 use Rattle.level.specs.Plot.{nearestTo, plotOf}
 use Rattle.level.specs.declared.Level.{Level}
 use Rattle.level.specs.declared.Plotted.{Plotted}
-use Rattle.denoise.proofs.Refusals.{never}
+use Rattle.series.proofs.Refusals.{never}
 use Rattle.chart.proofs.plotted.Statement.{statement}
 use Rattle.chart.proofs.plotted.Tie as tie
 

@@ -7,12 +7,13 @@ use Prim.Native.Nat.{ℕ}
 use lib.IntN.{ℤ}
 use lib.Ieee.{Float}
 use Rattle.level.specs.Answer.{Answer, given}
-use Rattle.denoise.specs.Limits.{refill, on-success}
-use Rattle.denoise.specs.Check.{checked, shapeOf}
-use Rattle.denoise.specs.declared.Checked.{Checked}
+use Rattle.series.specs.Answer.{refill, on-success, checked}
+use Rattle.checker.specs.Check.{shapeOf}
+use Rattle.series.specs.declared.Checked.{Checked}
 use Rattle.chart.specs.Drawable.{Drawable}
 use Rattle.chart.specs.Whole.{parts, roomOf, segmentsOf, firstsOf, lastsOf, levelsOf}
-use Rattle.chart.proofs.Passed.{then, shaped-is, passed}
+use Rattle.series.proofs.Refusals.{then}
+use Rattle.chart.proofs.DrawableLaws.{shaped-is, passed}
 use Rattle.chart.proofs.segments.Statement.{statement}
 use Rattle.chart.proofs.segments.Tie as tie
 

@@ -2,8 +2,8 @@
 use borrow.Author.Needs.{needs}
 use mathlib.Core.Path.{sym, ap, _∙_}
 use Rattle.denoise.specs.Line.{drawn}
-use Rattle.denoise.proofs.Admitted.{within, passed}
-use Rattle.denoise.proofs.Refusals.{never}
+use Rattle.series.proofs.LimitsLaws.{limits-passed}
+use Rattle.series.proofs.Refusals.{never}
 use Rattle.sheet.proofs.OwnLine.{has, drawn-has, room-to-draw}
 use Rattle.complete_sheet.proofs.draw.Statement.{statement}
 use Rattle.complete_sheet.proofs.draw.Tie as tie
@@ -11,9 +11,9 @@ use Rattle.complete_sheet.proofs.draw.Tie as tie
 returns : tie.Need-returns
 returns c =
     let g = c .before .before .before .before in
-    let w = within (g .args .samples .now) (g .args .f .smoothing) (g .pre .limited) in
+    let w = g .pre .limited in
     let o = g .pre .own (c .before .if1 .taken) in
-    has (g .args .samples .now) (g .args .f .smoothing) (g .args .f .segments) (g .args .lengths .now) (g .args .totals .now) (w .some) (w .limited .minutes) (o .0) (o .1 .0) (o .1 .1)
+    has (g .args .samples .now) (g .args .f .smoothing) (g .args .f .segments) (g .args .lengths .now) (g .args .totals .now) (w .some) (w .few) (o .0) (o .1 .0) (o .1 .1)
 
 returns-2 : tie.Need-returns-2
 returns-2 c =
@@ -31,7 +31,7 @@ returns-3 c =
     (sym (ap drawn (c .before .number .given .1))
     ∙ l .line .ensures .0
     ∙ room-to-draw (g .args .samples .now) (g .args .f .smoothing) (g .args .lengths .now) (g .args .totals .now) (g .pre .lengths-room) (g .pre .totals-room)
-    ∙ passed (g .args .samples .now) (g .args .f .smoothing) _ (g .pre .limited))
+    ∙ limits-passed (g .args .samples .now) (g .args .f .smoothing) _ (g .pre .limited))
 
 pub draw-spec : {M : Type 1} → statement M
 draw-spec =

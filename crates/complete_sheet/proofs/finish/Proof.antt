@@ -3,8 +3,7 @@ use borrow.Author.Needs.{needs}
 use mathlib.Core.Path.{sym}
 use native.Mathlib.Omega.{arith}
 use lib.Seq.{length-take-le}
-use Rattle.denoise.proofs.Admitted.{within}
-use Rattle.sheet.proofs.Judged.{line-few}
+use Rattle.sheet.proofs.AcceptedLists.{line-few}
 use Rattle.complete_sheet.proofs.Shown.{shown}
 use Rattle.complete_sheet.proofs.finish.Statement.{statement}
 use Rattle.complete_sheet.proofs.finish.Tie as tie
@@ -22,7 +21,7 @@ put-line-requires c κs =
     let h = d .draw .ensures in
     let a = length-take-le (d .draw .result) (d .draw .last .1 .1 .0) (h .lengths-room) in
     let b = length-take-le (d .draw .result) (d .draw .last .1 .1 .1 .0) (h .totals-room) in
-    let k = line-few (s .args .samples .now) (s .args .f .smoothing) (within (s .args .samples .now) (s .args .f .smoothing) (s .pre .0 .limited) .some) in
+    let k = line-few (s .args .samples .now) (s .args .f .smoothing) (s .pre .0 .limited .some) in
     (omega (arith, a, b), (omega (arith, a, h .count, k, s .pre .1 .0), s .pre .1 .1))
 
 returns : tie.Need-returns

@@ -9,7 +9,7 @@ use mir.Syntax.{w64}
 use mir.Val.{SFits}
 use mir.Facts.{toZ-ofZ, toZ-pos}
 use Rattle.level.specs.Answer.{Answer}
-use Rattle.denoise.specs.Dual.{filled}
+use Rattle.series.specs.Answer.{filled}
 use Rattle.chart.specs.Whole.{segmentsOf}
 use Rattle.chart.proofs.PlaceLaws.{segments-placed}
 use Rattle.console.specs.Code.{code-of-all, farthest, told}

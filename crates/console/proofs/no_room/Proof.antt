@@ -7,7 +7,7 @@ use native.Mathlib.Omega.{arith}
 use mir.Syntax.{w64}
 use mir.Val.{SFits}
 use mir.Facts.{toZ-ofZ}
-use Rattle.denoise.proofs.PlaceLaws.{place-most}
+use Rattle.series.proofs.PlaceLaws.{place-most}
 use Rattle.sheet.specs.Answer.{headed}
 use Rattle.sheet.specs.Read.{readOf}
 use Rattle.sheet.proofs.PlaceLaws.{read-placed}

@@ -8,8 +8,10 @@ use mir.Syntax.{w64}
 use mir.Val.{SFits}
 use mir.Facts.{toZ-ofZ, toZ-pos}
 use Rattle.level.specs.Answer.{refused}
-use Rattle.denoise.specs.Dual.{filled, balancesOf, balancesAfter}
-use Rattle.denoise.proofs.PlaceLaws.{place-most, balances-placed}
+use Rattle.series.specs.Answer.{filled}
+use Rattle.denoise.specs.Dual.{balancesOf, balancesAfter}
+use Rattle.series.proofs.PlaceLaws.{place-most}
+use Rattle.denoise.proofs.PlaceLaws.{balances-placed}
 use Rattle.console.specs.Code.{code-of-all}
 use Rattle.console.proofs.series_balances.Statement.{statement}
 use Rattle.console.proofs.series_balances.Tie as tie

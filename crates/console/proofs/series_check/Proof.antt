@@ -5,8 +5,9 @@ use native.Mathlib.Omega.{arith}
 use mir.Syntax.{w64}
 use mir.Val.{SFits}
 use mir.Facts.{toZ-ofZ}
-use Rattle.denoise.specs.Check.{checked, checkOf}
-use Rattle.denoise.proofs.PlaceLaws.{check-placed}
+use Rattle.series.specs.Answer.{checked}
+use Rattle.checker.specs.Check.{checkOf}
+use Rattle.checker.proofs.PlaceLaws.{check-placed}
 use Rattle.console.specs.Code.{code-of-none, told}
 use Rattle.console.proofs.Told.{plainly}
 use Rattle.console.proofs.series_check.Statement.{statement}

@@ -8,7 +8,8 @@ use mir.Val.{SFits}
 use mir.Facts.{toZ-ofZ, toZ-pos}
 use Rattle.level.specs.Answer.{refused}
 use Rattle.denoise.specs.Line.{drawn, lineOf, lengthsOf, totalsOf}
-use Rattle.denoise.proofs.PlaceLaws.{place-most, line-placed}
+use Rattle.series.proofs.PlaceLaws.{place-most}
+use Rattle.denoise.proofs.PlaceLaws.{line-placed}
 use Rattle.console.specs.Code.{code}
 use Rattle.console.proofs.series_line.Statement.{statement}
 use Rattle.console.proofs.series_line.Tie as tie

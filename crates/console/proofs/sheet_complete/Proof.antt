@@ -7,7 +7,7 @@ use mir.Syntax.{w64}
 use mir.Val.{SFits}
 use mir.Facts.{toZ-ofZ, toZ-pos}
 use Rattle.level.specs.Answer.{refused, given}
-use Rattle.denoise.proofs.PlaceLaws.{place-most}
+use Rattle.series.proofs.PlaceLaws.{place-most}
 use Rattle.sheet.specs.Write.{written}
 use Rattle.sheet.specs.Complete.{completeOf, completedAfter}
 use Rattle.sheet.proofs.CompleteLaws.{bytes-few}

@@ -9,8 +9,8 @@ use mir.Syntax.{w64}
 use mir.Val.{SFits}
 use mir.Facts.{toZ-ofZ}
 use Rattle.level.specs.Answer.{Answer, refused, given}
-use Rattle.denoise.specs.Limits.{refill, on-success}
-use Rattle.denoise.proofs.PlaceLaws.{place-most}
+use Rattle.series.specs.Answer.{refill, on-success}
+use Rattle.series.proofs.PlaceLaws.{place-most}
 use Rattle.sheet.specs.Answer.{headed, fields}
 use Rattle.sheet.specs.Format.{segment-count}
 use Rattle.sheet.specs.Read.{accepted, readOf}

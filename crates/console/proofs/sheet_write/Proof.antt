@@ -10,10 +10,11 @@ use mir.Syntax.{w64}
 use mir.Val.{SFits}
 use mir.Facts.{toZ-ofZ, toZ-pos}
 use Rattle.level.specs.Answer.{Answer, given}
+use Rattle.series.specs.Answer.{passing}
+use Rattle.series.proofs.Refusals.{passed}
 use Rattle.sheet.specs.Write.{written, writeOf, writtenAfter}
-use Rattle.sheet.specs.Complete.{fine}
-use Rattle.sheet.proofs.Chains.{passed, lists-alike}
-use Rattle.sheet.proofs.Judged.{judged}
+use Rattle.sheet.proofs.SheetRefusals.{tested-alike}
+use Rattle.sheet.proofs.AcceptedLists.{accepted-lists}
 use Rattle.sheet.proofs.SheetOf.{has-room}
 use Rattle.sheet.proofs.PlaceLaws.{write-placed}
 use Rattle.console.specs.Code.{code, farthest, told}
@@ -23,8 +24,8 @@ use Rattle.console.proofs.sheet_write.Tie as tie
 
 bytes-few : (ys : List ℤ) (L : ℕ) (ns : List ℕ) (ts : List ℤ) (out : List ℕ) (b : ℕ) → writeOf ys L ns ts out ≡ given b → b ≤ 1048608
 bytes-few ys L ns ts out b e =
-    let p = passed (lists-alike {y = fine} ys L ns ts) e in
-    let j = judged ys L ns ts (p .1) in
+    let p = passed (tested-alike {y = passing} ys L ns ts) e in
+    let j = accepted-lists ys L ns ts (p .1) in
     omega (arith, has-room out _ b (p .0) .1)
 
 module _ (g : tie.After-write) where

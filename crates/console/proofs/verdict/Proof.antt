@@ -4,7 +4,7 @@ use mathlib.Core.Path.{sym, ap, _∙_}
 use mir.Syntax.{w64}
 use mir.Val.{SFits}
 use mir.Facts.{toZ-ofZ}
-use Rattle.denoise.specs.Check.{checked}
+use Rattle.series.specs.Answer.{checked}
 use Rattle.console.specs.Code.{code-of-none, told}
 use Rattle.console.proofs.verdict.Statement.{statement}
 use Rattle.console.proofs.verdict.Tie as tie

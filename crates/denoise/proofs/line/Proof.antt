@@ -7,10 +7,12 @@ use lib.ListN.{length}
 use lib.IntN.{pos}
 use Rattle.level.specs.Answer.{Answer, given, refused}
 use Rattle.optimality.specs.Machine.{plain-line}
-use Rattle.denoise.specs.Limits.{in-limits}
+use Rattle.series.specs.Limits.{in-limits}
 use Rattle.denoise.specs.Line.{lineOf}
-use Rattle.denoise.specs.Check.{checked}
-use Rattle.denoise.proofs.Admitted.{within, passed, stopped}
+use Rattle.series.specs.Answer.{checked}
+use Rattle.optimality.specs.Series.{Limited}
+use Rattle.series.proofs.Refusals.{Alike, pass, stopped}
+use Rattle.series.proofs.LimitsLaws.{limits-given, limits-passed, limits-alike}
 use Rattle.denoise.proofs.LineLaws.{promised}
 use Rattle.denoise.proofs.line.Statement.{statement}
 use Rattle.denoise.proofs.line.Tie as tie
@@ -30,22 +32,22 @@ returns c =
     let w = c .before in
     let l = w .before .before in
     let s = l .before .before in
-    let e : answer s ≡ refused (w .number .given .0 .0) (w .number .given .0 .1 .0) = stopped (s .args .samples .now) (s .args .smoothing) _ (sym (l .limits .ensures) ∙ ap checked (w .number .given .1)) in
+    let e : answer s ≡ refused (w .number .given .0 .0) (w .number .given .0 .1 .0) = stopped (limits-alike (s .args .samples .now) (s .args .smoothing) pass) (sym (l .limits .ensures) ∙ ap checked (w .number .given .1)) in
     promised (s .args .samples .now) (s .args .smoothing) (s .args .lengths .now) (s .args .totals .now) _ _ _ (rw e, (rw e, rw e))
 
 -- ---- no refusal so far
 enum-told : tie.Need-enum-told
 enum-told c = search needs
 
-fine : (c : tie.After-enum-told) → let s = c .before .before .before .before in in-limits (s .args .samples .now) (s .args .smoothing) (given tt) ≡ given (tt {0})
-fine c = sym (c .before .before .limits .ensures) ∙ ap checked (c .enum-told .given .1)
+within : (c : tie.After-enum-told) → let s = c .before .before .before .before in Limited (s .args .samples .now) (s .args .smoothing)
+within c = let s = c .before .before .before .before in limits-given (s .args .samples .now) (s .args .smoothing) (sym (c .before .before .limits .ensures) ∙ ap checked (c .enum-told .given .1)) .0
 
 -- ---- 5
 returns-2 : tie.Need-returns-2
 returns-2 c =
     let w = c .before in
     let s = w .before .before .before .before in
-    let e : answer s ≡ refused 5 0 = passed (s .args .samples .now) (s .args .smoothing) _ (fine w) ∙ rw (lt-ltb (length (s .args .lengths .now)) (length (s .args .samples .now)) (c .if1 .taken)) in
+    let e : answer s ≡ refused 5 0 = limits-passed (s .args .samples .now) (s .args .smoothing) _ (within w) ∙ rw (lt-ltb (length (s .args .lengths .now)) (length (s .args .samples .now)) (c .if1 .taken)) in
     promised (s .args .samples .now) (s .args .smoothing) (s .args .lengths .now) (s .args .totals .now) _ _ _ (rw e, (rw e, rw e))
 
 returns-3 : tie.Need-returns-3
@@ -53,11 +55,11 @@ returns-3 c =
     let w = c .before .before in
     let s = w .before .before .before .before in
     let n = length (s .args .samples .now) in
-    let e : answer s ≡ refused 5 0 = passed (s .args .samples .now) (s .args .smoothing) _ (fine w) ∙ rw (le-ltb (length (s .args .lengths .now)) n (c .before .if1 .left), lt-ltb (length (s .args .totals .now)) n (c .if2 .taken)) in
+    let e : answer s ≡ refused 5 0 = limits-passed (s .args .samples .now) (s .args .smoothing) _ (within w) ∙ rw (le-ltb (length (s .args .lengths .now)) n (c .before .if1 .left), lt-ltb (length (s .args .totals .now)) n (c .if2 .taken)) in
     promised (s .args .samples .now) (s .args .smoothing) (s .args .lengths .now) (s .args .totals .now) _ _ _ (rw e, (rw e, rw e))
 
 draw-requires : tie.Need-draw-requires
-draw-requires c κs = let w = c .before .before .before .before in (within _ _ (fine w), (c .before .before .before .if1 .left, c .before .before .if2 .left))
+draw-requires c κs = let w = c .before .before .before .before in (within w, (c .before .before .before .if1 .left, c .before .before .if2 .left))
 
 same-length : tie.Need-same-length
 same-length c = search needs
@@ -73,7 +75,7 @@ returns-4 c =
     let s = w .before .before .before .before in
     let n = length (s .args .samples .now) in
     let e : answer s ≡ given (length (plain-line (pos (s .args .smoothing)) (s .args .samples .now))) =
-    passed (s .args .samples .now) (s .args .smoothing) _ (fine w) ∙ rw (le-ltb (length (s .args .lengths .now)) n (f .before .if1 .left), le-ltb (length (s .args .totals .now)) n (f .if2 .left)) in
+    limits-passed (s .args .samples .now) (s .args .smoothing) _ (within w) ∙ rw (le-ltb (length (s .args .lengths .now)) n (f .before .if1 .left), le-ltb (length (s .args .totals .now)) n (f .if2 .left)) in
     promised (s .args .samples .now) (s .args .smoothing) (s .args .lengths .now) (s .args .totals .now) _ _ _ (ap given (d .draw .ensures .0) ∙ sym e, (d .draw .ensures .1 .0 ∙ rw e, d .draw .ensures .1 .1 ∙ rw e))
 
 pub line-spec : {M : Type 1} → statement M

@@ -1,4 +1,4 @@
--- `records::series_check_segments` meets its contract: a walk of its MIR, by hand. It hands its lent run of segments to `denoise::check_segments`, and what
+-- `records::series_check_segments` meets its contract: a walk of its MIR, by hand. It hands its lent run of segments to `checker::check_segments`, and what
 -- that answers to `verdict`.
 mod Callees
 mod Exit
@@ -38,14 +38,14 @@ use denote.Triple.Spec.{Meets, tripleOf}
 use denote.Triple.Table.{entered, cited}
 use denote.Triple.Walked.{goes-none, goes-none-slice, Walks, walked, walk-meets}
 use denote.Exit.{yes}
-use Rattle.denoise.specs.Check.{checked}
-use Rattle.denoise.specs.declared.Checked.{Checked}
-use Rattle.denoise.proofs.Checked as K
-use Rattle.denoise.proofs.Segment as T
-use Rattle.denoise.proofs.check_segments as check
-use Rattle.denoise.proofs.check_segments.Symbol as check-def
-use Rattle.denoise.proofs.check_segments.Symbol.{name as #check}
-use Rattle.denoise.proofs.check_segments.Met as check-thm
+use Rattle.series.specs.Answer.{checked}
+use Rattle.series.specs.declared.Checked.{Checked}
+use Rattle.series.proofs.Checked as K
+use Rattle.checker.proofs.Segment as T
+use Rattle.checker.proofs.check_segments as check
+use Rattle.checker.proofs.check_segments.Symbol as check-def
+use Rattle.checker.proofs.check_segments.Symbol.{name as #check}
+use Rattle.checker.proofs.check_segments.Met as check-thm
 use Rattle.console.specs.Code.{code-of-none, told}
 use Rattle.console.proofs.verdict as verdict
 use Rattle.console.proofs.verdict.Symbol as verdict-def
@@ -163,6 +163,6 @@ series-check-segments-spec 𝓤 H 𝓜 𝓖 𝓡 =
     entered 𝓤 H (tripleOf 𝓤 H (𝓖 .A) f.signature (f.spec 𝓤 H (𝓖 .A) (𝓜 .mem) (𝓡 .run)))
     (tables 𝓤 H 𝓜 𝓡 code.env .C) (tables 𝓤 H 𝓜 𝓡 code.env .Λ) #series-check-segments code.function (code.unfolded 𝓤 H 𝓜 𝓡)
     (meets 𝓤 H (𝓖 .A) (givenOf 𝓤 H 𝓜 𝓖) (𝓜 .mem) (𝓡 .run) (tablesOf 𝓤 H 𝓜 (tables 𝓤 H 𝓜 𝓡 code.env)) (record {
-      check = cited 𝓤 H (Check 𝓤 H (𝓖 .A) (𝓜 .mem) (𝓡 .run)) 𝓜 𝓡 code.env #check check-def.routine code.calls-denoise·check-segments (check-thm.met 𝓤 H 𝓜 𝓖 𝓡);
+      check = cited 𝓤 H (Check 𝓤 H (𝓖 .A) (𝓜 .mem) (𝓡 .run)) 𝓜 𝓡 code.env #check check-def.routine code.calls-checker·check-segments (check-thm.met 𝓤 H 𝓜 𝓖 𝓡);
       verdict = cited 𝓤 H (Verdict 𝓤 H (𝓖 .A) (𝓜 .mem) (𝓡 .run)) 𝓜 𝓡 code.env #verdict verdict-def.routine code.calls-console·verdict (verdict-thm.met 𝓤 H 𝓜 𝓖 𝓡);
     }))

@@ -11,8 +11,8 @@ use Rattle.optimality.specs.Machine.{on}
 use Rattle.optimality.specs.Tests.{test3}
 use Rattle.optimality.specs.Sound.{left}
 use Rattle.denoise.specs.Run.{Emits, Stops, Advanced, dataOf, stateOf}
-use Rattle.denoise.proofs.Turn.{Goes, goes-on, marked, restarts, known, step-on}
-use Rattle.denoise.proofs.Written.{Kept, kept-first, kept-turn, kept-on, count-end, lengths-end, totals-end}
+use Rattle.denoise.proofs.RunSteps.{Goes, goes-on, marked, restarts, known, step-on}
+use Rattle.denoise.proofs.DrawLoop.{Kept, kept-first, kept-turn, kept-on, count-end, lengths-end, totals-end}
 use Rattle.denoise.proofs.drawing.draw.Statement.{statement}
 use Rattle.denoise.proofs.drawing.draw.Tie as tie
 
@@ -44,10 +44,10 @@ module _ (l : tie.At-loop2 Inv-loop2 μ-loop2 Inv-loop μ-loop) where
 
   -- a segment fits, and there is room for it
   room : (n : ℕ) → n ≤ length (l .before .before .before .before .args .samples .now) → (n ≤ 65536) × ((l .loop2 .m < length (l .loop2 .lengths)) × (l .loop2 .m < length (l .loop2 .totals)))
-  room n h = let s = l .before .before .before .before in let K = kept in (omega (arith, s .pre .0 .limited .minutes), (omega (arith, K .few, K .short, K .lengths-long, s .pre .1 .0), omega (arith, K .few, K .short, K .totals-long, s .pre .1 .1)))
+  room n h = let s = l .before .before .before .before in let K = kept in (omega (arith, s .pre .0 .few), (omega (arith, K .few, K .short, K .lengths-long, s .pre .1 .0), omega (arith, K .few, K .short, K .totals-long, s .pre .1 .1)))
 
   few : l .loop2 .m < 65536
-  few = omega (arith, kept .few, kept .short, l .before .before .before .before .pre .0 .limited .minutes)
+  few = omega (arith, kept .few, kept .short, l .before .before .before .before .pre .0 .few)
 
 -- ---- steps 8 and 9
 finish-requires : tie.Need-finish-requires Inv-loop2 μ-loop2 Inv-loop μ-loop

@@ -4,9 +4,10 @@ use native.Mathlib.Omega.{arith}
 use lib.IntN.{pos}
 use mir.Syntax.{w64}
 use mir.Val.{toZ, ofZ}
+use Rattle.optimality.specs.Limits.{sample-small}
 use Rattle.integers.specs.Bounds.{cleaning, clean}
 use Rattle.denoise.specs.Run.{aheadOf}
-use Rattle.denoise.proofs.Room.{most}
+use Rattle.denoise.proofs.RunBounds.{most}
 use Rattle.denoise.proofs.steps.begin.Statement.{statement}
 use Rattle.denoise.proofs.steps.begin.Tie as tie
 
@@ -18,7 +19,7 @@ ahead-requires : tie.Need-ahead-requires
 ahead-requires c κs =
     let s = c .before in
     let h = s .pre .1 .0 in
-    (rw (dual s) (record { total = record { upto = omega (arith, s .pre .1 .1 .upto) }; n = record { upto = omega arith } }), (most _ _ (s .pre .0), (h, s .pre .0 .limited .samples _ h)))
+    (rw (dual s) (record { total = record { upto = omega (arith, s .pre .1 .1 .upto) }; n = record { upto = omega arith } }), (most _ _ (s .pre .0), (h, sample-small 16777216 _ (s .pre .0 .samples) _ h)))
 
 returns : tie.Need-returns
 returns c =

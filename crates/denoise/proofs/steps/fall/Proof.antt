@@ -1,8 +1,8 @@
 -- `denoise::steps::fall` meets its contract.
 use native.Mathlib.Omega.{arith}
 use Rattle.denoise.specs.Run.{cutOf, fallOf}
-use Rattle.denoise.proofs.Room.{most}
-use Rattle.denoise.proofs.Turn.{ahead, turns, known, step-3}
+use Rattle.denoise.proofs.RunBounds.{most}
+use Rattle.denoise.proofs.RunSteps.{ahead, turns, known, step-3}
 use Rattle.denoise.proofs.steps.fall.Statement.{statement}
 use Rattle.denoise.proofs.steps.fall.Tie as tie
 

@@ -1,7 +1,7 @@
 -- `denoise::steps::falls` meets its contract.
 use mathlib.Core.Path.{ap, _∙_}
 use Rattle.denoise.specs.Run.{belowOf}
-use Rattle.denoise.proofs.Room.{ready, high}
+use Rattle.denoise.proofs.RunBounds.{ready, high}
 use Rattle.denoise.proofs.steps.falls.Statement.{statement}
 use Rattle.denoise.proofs.steps.falls.Tie as tie
 

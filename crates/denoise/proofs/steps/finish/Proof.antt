@@ -8,8 +8,8 @@ use lib.ListN.{length}
 use Rattle.integers.specs.Order.{abs-neg}
 use Rattle.optimality.specs.Machine.{begin, keep-min, keep-max}
 use Rattle.denoise.specs.Run.{dataOf, stateOf, cutOf, belowOf}
-use Rattle.denoise.proofs.Room.{most, at-small}
-use Rattle.denoise.proofs.Turn.{ahead, emits, stops, known, step-8, step-9, step-10}
+use Rattle.denoise.proofs.RunBounds.{most, at-small}
+use Rattle.denoise.proofs.RunSteps.{ahead, emits, stops, known, step-8, step-9, step-10}
 use Rattle.denoise.proofs.steps.finish.Statement.{statement}
 use Rattle.denoise.proofs.steps.finish.Tie as tie
 
@@ -27,7 +27,7 @@ after-fall-requires : tie.Need-after-fall-requires
 after-fall-requires c κs = most _ _ (c .before .before .before .before .before .pre .0)
 
 begin-requires : tie.Need-begin-requires
-begin-requires c κs = let s = c .before .before .before .before .before .before in rw (c .after-fall .ensures) ((s .pre .0, (ahead-8 (c .before) .1, s .pre .0 .limited .smoothing)))
+begin-requires c κs = let s = c .before .before .before .before .before .before in rw (c .after-fall .ensures) ((s .pre .0, (ahead-8 (c .before) .1, record { upto = s .pre .0 .smooth })))
 
 cut-requires : tie.Need-cut-requires
 cut-requires c κs = omega (arith, ahead-8 (c .before .before .before .before) .0)

@@ -10,7 +10,7 @@ use Rattle.denoise.specs.Run.{stateOf, belowOf, aheadOf, moreOf}
 use Rattle.denoise.specs.declared.steps.Tube.{Tube}
 use Rattle.denoise.specs.declared.steps.Slope.{Slope}
 use Rattle.denoise.specs.declared.steps.Run.{Run}
-use Rattle.denoise.proofs.Room.{ready, low, high}
+use Rattle.denoise.proofs.RunBounds.{ready, low, high}
 use Rattle.denoise.proofs.steps.more.Statement.{statement}
 use Rattle.denoise.proofs.steps.more.Tie as tie
 

@@ -3,8 +3,8 @@ use native.Mathlib.Omega.{arith}
 use lib.IntN.{pos}
 use Rattle.integers.specs.Order.{abs-neg}
 use Rattle.denoise.specs.Run.{cutOf, riseOf}
-use Rattle.denoise.proofs.Room.{most}
-use Rattle.denoise.proofs.Turn.{ahead, turns, known, step-4}
+use Rattle.denoise.proofs.RunBounds.{most}
+use Rattle.denoise.proofs.RunSteps.{ahead, turns, known, step-4}
 use Rattle.denoise.proofs.steps.rise.Statement.{statement}
 use Rattle.denoise.proofs.steps.rise.Tie as tie
 

@@ -1,7 +1,7 @@
 -- `denoise::steps::rises` meets its contract.
 use mathlib.Core.Path.{ap, _∙_}
 use Rattle.denoise.specs.Run.{belowOf}
-use Rattle.denoise.proofs.Room.{ready, low}
+use Rattle.denoise.proofs.RunBounds.{ready, low}
 use Rattle.denoise.proofs.steps.rises.Statement.{statement}
 use Rattle.denoise.proofs.steps.rises.Tie as tie
 

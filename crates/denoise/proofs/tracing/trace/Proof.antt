@@ -12,8 +12,8 @@ use Rattle.optimality.specs.Machine.{on}
 use Rattle.optimality.specs.Tests.{test3}
 use Rattle.optimality.specs.Sound.{left}
 use Rattle.denoise.specs.Run.{Emits, Stops, Advanced, dataOf, stateOf}
-use Rattle.denoise.proofs.Turn.{Goes, goes-on, marked, restarts, known, step-on}
-use Rattle.denoise.proofs.Traced.{Traced, traced-first, traced-turn, traced-on, traced-end, turn-fills, emit-fills, stop-fills}
+use Rattle.denoise.proofs.RunSteps.{Goes, goes-on, marked, restarts, known, step-on}
+use Rattle.denoise.proofs.TraceLoop.{Traced, traced-first, traced-turn, traced-on, traced-end, turn-fills, emit-fills, stop-fills}
 use Rattle.denoise.proofs.tracing.trace.Statement.{statement}
 use Rattle.denoise.proofs.tracing.trace.Tie as tie
 

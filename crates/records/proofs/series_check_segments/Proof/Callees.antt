@@ -24,14 +24,15 @@ use denote.Triple.Clauses.{ensured, lasts}
 use denote.Triple.Entry.{Vals, onEntry}
 use denote.Triple.Spec.{tripleOf}
 use Rattle.level.specs.Answer.{Answer}
-use Rattle.denoise.specs.Check.{checked, checkOf}
-use Rattle.denoise.specs.Records.{lengths-of, totals-of}
-use Rattle.denoise.specs.declared.Checked.{Checked}
-use Rattle.denoise.specs.declared.Segment.{Segment}
-use Rattle.denoise.proofs.Checked as K
-use Rattle.denoise.proofs.Segment as T
-use Rattle.denoise.proofs.check_segments as check
-use Rattle.denoise.proofs.check_segments.Symbol.{name as #check}
+use Rattle.series.specs.Answer.{checked}
+use Rattle.checker.specs.Check.{checkOf}
+use Rattle.checker.specs.Records.{lengths-of, totals-of}
+use Rattle.series.specs.declared.Checked.{Checked}
+use Rattle.checker.specs.declared.Segment.{Segment}
+use Rattle.series.proofs.Checked as K
+use Rattle.checker.proofs.Segment as T
+use Rattle.checker.proofs.check_segments as check
+use Rattle.checker.proofs.check_segments.Symbol.{name as #check}
 use Rattle.console.specs.Code.{code-of-none, told}
 use Rattle.console.proofs.verdict as verdict
 use Rattle.console.proofs.verdict.Symbol.{name as #verdict}

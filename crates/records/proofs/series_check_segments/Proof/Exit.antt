@@ -24,9 +24,9 @@ use denote.Signature.{plain}
 use denote.Steps.{owned, nothing}
 use denote.Triple.Walked.{Stays, stay-none, stay-none-slice, walkOf, ends-at}
 use denote.Exit.{yes}
-use Rattle.denoise.specs.Records.{lengths-of, totals-of}
-use Rattle.denoise.proofs.PlaceLaws.{check-placed}
-use Rattle.denoise.proofs.Segment as T
+use Rattle.checker.specs.Records.{lengths-of, totals-of}
+use Rattle.checker.proofs.PlaceLaws.{check-placed}
+use Rattle.checker.proofs.Segment as T
 use Rattle.console.specs.Code.{code-of-none, farthest, told}
 use Rattle.console.proofs.Told.{plainly}
 use Rattle.records.proofs.series_check_segments as f

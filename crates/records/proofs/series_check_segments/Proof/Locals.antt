@@ -15,10 +15,10 @@ use denote.Memory.{pointee}
 use denote.Signed.{sint-lawful}
 use denote.Slice.{sliceTy}
 use denote.Enum.Laws as EL
-use Rattle.denoise.specs.declared.Checked.{Checked}
-use Rattle.denoise.proofs.Checked as K
-use Rattle.denoise.proofs.Checked.Laws as K′
-use Rattle.denoise.proofs.Segment as T
+use Rattle.series.specs.declared.Checked.{Checked}
+use Rattle.series.proofs.Checked as K
+use Rattle.series.proofs.Checked.Laws as K′
+use Rattle.checker.proofs.Segment as T
 use Rattle.records.proofs.series_check_segments.Code.Mir as body
 
 abbrev pub checkedTy : Ty

@@ -4,8 +4,9 @@ use native.Mathlib.Omega.{arith}
 use borrow.Author.Needs.{needs}
 use lib.ListN.{take}
 use lib.Seq.{length-take-le}
-use Rattle.denoise.specs.Check.{checked}
-use Rattle.sheet.proofs.Chains.{stopped, lists-alike}
+use Rattle.series.specs.Answer.{checked}
+use Rattle.series.proofs.Refusals.{stopped}
+use Rattle.sheet.proofs.SheetRefusals.{tested-alike}
 use Rattle.sheet.proofs.OwnLine.{drawn-line, filed-line}
 use Rattle.sheet.proofs.completing.line.Statement.{statement}
 use Rattle.sheet.proofs.completing.line.Tie as tie
@@ -19,10 +20,10 @@ returns c =
     drawn-line (g .args .ys .now) (g .args .f .smoothing) (g .args .ns .now) (g .args .ts .now) (g .args .f .segments) _ _ _ (d .before .before .before .if1 .taken)
     (g .pre .1 .0) (g .pre .1 .1) (e .0) (e .1 .0) (e .1 .1 .0)
 
-lengths-part : tie.Need-slice-aggregate-judge
+lengths-part : tie.Need-slice-aggregate-check-filed
 lengths-part c = let g = c .before .before .before .before .before in sym (length-take-le _ _ (omega (arith, g .pre)))
 
-totals-part : tie.Need-slice-aggregate-judge-2
+totals-part : tie.Need-slice-aggregate-check-filed-2
 totals-part c = let g = c .before .before .before .before .before .before in sym (length-take-le _ _ (omega (arith, g .pre)))
 
 -- 1, 2, 4, 3 or 6 to 9
@@ -31,7 +32,7 @@ returns-2 c =
     let n = c .before in
     let j = n .before .before in
     let g = j .before .before .before .before .before .before .before .args in
-    (sym (stopped (lists-alike (g .ys .now) (g .f .smoothing) (take (g .f .segments) (g .ns .now)) (take (g .f .segments) (g .ts .now))) (sym (j .judge .ensures) ∙ ap checked (n .number .given .1))), tt)
+    (sym (stopped (tested-alike (g .ys .now) (g .f .smoothing) (take (g .f .segments) (g .ns .now)) (take (g .f .segments) (g .ts .now))) (sym (j .check-filed .ensures) ∙ ap checked (n .number .given .1))), tt)
 
 returns-3 : tie.Need-returns-3
 returns-3 c =
@@ -39,7 +40,7 @@ returns-3 c =
     let g = j .before .before .before .before .before .before .before in
     let some = j .before .before .before .before .if1 .left in
     filed-line (g .args .ys .now) (g .args .f .smoothing) (g .args .ns .now) (g .args .ts .now) (g .args .f .segments) (omega arith)
-    (omega (arith, g .pre)) (omega (arith, g .pre)) (sym (j .judge .ensures) ∙ ap checked (c .enum-told .given .1))
+    (omega (arith, g .pre)) (omega (arith, g .pre)) (sym (j .check-filed .ensures) ∙ ap checked (c .enum-told .given .1))
 
 pub line-spec : {M : Type 1} → statement M
 line-spec =

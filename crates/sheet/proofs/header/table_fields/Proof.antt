@@ -6,7 +6,7 @@ use borrow.Author.Tests.{eq-eqb, ne-eqb}
 use lib.ListN.{length}
 use Rattle.codec.specs.LittleEndian.{getUnsigned}
 use Rattle.sheet.specs.Format.{minutes, segment-count, line-offset, size}
-use Rattle.sheet.specs.HeadLaws.{AsInTable, none-differs}
+use Rattle.sheet.specs.HeadLaws.{AsInTable, none-wrong}
 use Rattle.sheet.proofs.header.table_fields.Statement.{statement}
 use Rattle.sheet.proofs.header.table_fields.Tie as tie
 
@@ -81,7 +81,7 @@ returns-6 c =
     let start = c1 .before .before .before in
     let table : AsInTable (start .args .sheet .now) =
     record { field-8 = field-8 c1; field-12 = field-12 c2; field-24 = field-24 c3; all = all c4; field-28 = field-28 c5 } in
-    rw (start .pre .1 .0, start .pre .1 .1 .0, c .get-u64 .ensures, none-differs _ table)
+    rw (start .pre .1 .0, start .pre .1 .1 .0, c .get-u64 .ensures, none-wrong _ table)
 
 pub table-fields-spec : {M : Type 1} → statement M
 table-fields-spec =

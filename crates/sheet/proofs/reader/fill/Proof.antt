@@ -1,13 +1,14 @@
--- `sheet::reader::fill` meets its contract: the judge's refusals, then 5 by any of the three lists, else copies.
+-- `sheet::reader::fill` meets its contract: the refusals of the lists, then 5 by any of the three lists, else copies.
 use mathlib.Core.Path.{_≡_, refl, sym, ap, _∙_}
 use native.Mathlib.Omega.{arith}
 use borrow.Author.Needs.{needs}
 use borrow.Author.Tests.{lt-ltb, le-ltb}
 use lib.ListN.{length}
-use Rattle.denoise.specs.Limits.{in-limits}
-use Rattle.denoise.specs.Check.{checked}
+use Rattle.series.specs.Limits.{in-limits}
+use Rattle.series.specs.Answer.{checked}
+use Rattle.series.proofs.Refusals.{stopped, passed}
 use Rattle.sheet.specs.Read.{filed, with-room}
-use Rattle.sheet.proofs.Chains.{stopped, passed, lists-alike}
+use Rattle.sheet.proofs.SheetRefusals.{tested-alike}
 use Rattle.sheet.proofs.reader.fill.Statement.{statement}
 use Rattle.sheet.proofs.reader.fill.Tie as tie
 
@@ -17,7 +18,7 @@ returns c =
     let n = c .before in
     let j = n .before .before in
     let g = j .before .before .before .args in
-    let e = stopped (lists-alike (g .ys .now) (g .f .smoothing) (g .ns .now) (g .ts .now)) (sym (j .judge .ensures) ∙ ap checked (n .number .given .1)) in
+    let e = stopped (tested-alike (g .ys .now) (g .f .smoothing) (g .ns .now) (g .ts .now)) (sym (j .check-filed .ensures) ∙ ap checked (n .number .given .1)) in
     (sym e, (refl, (refl, refl)))
 
 -- ---- no refusal so far: what is left is the room
@@ -27,7 +28,7 @@ told : (c : tie.After-enum-told) → let g = c .before .before .before .before .
 told c =
     let j = c .before .before in
     let g = j .before .before .before .args in
-    passed (lists-alike (g .ys .now) (g .f .smoothing) (g .ns .now) (g .ts .now)) (sym (j .judge .ensures) ∙ ap checked (c .enum-told .given .1)) .1
+    passed (tested-alike (g .ys .now) (g .f .smoothing) (g .ns .now) (g .ts .now)) (sym (j .check-filed .ensures) ∙ ap checked (c .enum-told .given .1)) .1
 
 -- ---- 5
 returns-2 : tie.Need-returns-2

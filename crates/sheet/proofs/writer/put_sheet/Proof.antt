@@ -3,7 +3,7 @@ use mathlib.Core.Path.{refl}
 use borrow.Author.Needs.{needs}
 use borrow.Author.Tests.{lt-ltb, le-ltb}
 use lib.ListN.{length}
-use Rattle.denoise.specs.Limits.{refill}
+use Rattle.series.specs.Answer.{refill}
 use Rattle.sheet.specs.Format.{size}
 use Rattle.sheet.specs.SheetLaws.{length-sheet-bytes}
 use Rattle.sheet.proofs.writer.put_sheet.Statement.{statement}

@@ -1,0 +1,48 @@
+-- Within the limits each number that a step forms is small.
+use mathlib.Core.Bool.{false}
+use native.Mathlib.Omega.{arith}
+use mathlib.Core.List.{List}
+use Prim.Native.Nat.{ℕ, _<_, _≤_}
+use lib.ListN.{length, getD}
+use lib.IntN.{ℤ, pos}
+use Rattle.integers.specs.Order.{_⩽_}
+use Rattle.integers.specs.Linear.{int}
+use Rattle.integers.specs.Bounds.{Upto}
+use Rattle.optimality.specs.Machine.{more}
+use Rattle.optimality.specs.Tests.{U′, n′}
+use Rattle.optimality.specs.Tube.{Right, plain-right}
+use Rattle.optimality.specs.Limits as Limits
+use Rattle.optimality.specs.Series.{Limited}
+use Rattle.denoise.specs.Run.{Small, Mid, Good, dataOf, stateOf, aheadOf}
+use Rattle.denoise.specs.declared.steps.Run.{Run}
+
+module _ (ys : List ℤ) (smoothing : ℕ) (W : Limited ys smoothing) where
+  pub smooth : pos 0 ⩽ pos smoothing
+  smooth = omega int
+
+  pub right : Right (dataOf ys smoothing)
+  right = plain-right (pos smoothing) ys (W .some) smooth
+
+  pub most : smoothing ≤ 1099511627776
+  most = W .smooth
+
+  module _ (r : Run) (G : Good ys smoothing r) where
+    room : Limits.Room (pos smoothing) ys (stateOf r)
+    room = Limits.room (pos smoothing) ys smooth W (G .sound) (G .small)
+
+    pub at-small : Small (r .at)
+    at-small = record { total = record { upto = omega (arith, room .U .upto) }; divisor = room .n }
+
+    -- one minute further: what `ahead` asks, and what it gives
+    module _ (h : r .at .k < length ys) where
+      pub ready : Mid (r .at) × ((smoothing ≤ 1099511627776) × ((r .at .k < length ys) × Upto 16777216 (getD ys (r .at .k) (pos 0))))
+      ready = (record { total = room .U; n = room .n }, (most, (h, Limits.sample-small 16777216 ys (W .samples) (r .at .k) h)))
+
+      after : Limits.Small (pos smoothing) ys (more (dataOf ys smoothing) (stateOf r) (U′ (dataOf ys smoothing) (stateOf r)) (n′ (dataOf ys smoothing) (stateOf r)) false false)
+      after = Limits.more-small (pos smoothing) ys smooth W (G .sound) (G .small) h false false
+
+      pub low : Small (aheadOf ys smoothing (r .at) .low)
+      low = after .min
+
+      pub high : Small (aheadOf ys smoothing (r .at) .high)
+      high = after .max

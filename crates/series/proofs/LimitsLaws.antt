@@ -1,0 +1,54 @@
+-- The answer to 1, 2, 4 and 3: a series within the limits passes them, and no other does.
+use mathlib.Core.Path.{_≡_, refl}
+use mathlib.Core.List.{List, [], _∷_}
+use mathlib.Core.Option.{none}
+use native.Mathlib.Omega.{arith}
+use Prim.Native.Nat.{ℕ, suc, _<_}
+use lib.Dec.{eqb, ltb}
+use lib.ListN.{length}
+use lib.IntN.{ℤ, natAbs}
+use borrow.Author.Tests.{eqb-false, ltb-false, ne-eqb, le-ltb}
+use Rattle.optimality.specs.Series.{plain, Bounded, Limited}
+use Rattle.level.specs.Answer.{Answer, refused, given}
+use Rattle.series.specs.Search.{first-from, first}
+use Rattle.series.specs.Limits.{bad-sample, in-limits}
+use Rattle.series.proofs.SearchLaws.{none-found}
+use Rattle.series.proofs.Refusals.{never, if-past, at-past, Alike, if-alike, at-alike}
+
+bounded : (ys : List ℤ) (i : ℕ) → first-from bad-sample i ys ≡ none → Bounded 16777216 (plain ys)
+unfolding Bounded plain first-from
+bounded [] i e = tt
+bounded (y ∷ ys) i e = let f = none-found (bad-sample y) i _ e in (ltb-false 16777216 (natAbs y) (f .0), bounded ys (suc i) (f .1))
+
+none-bad : (ys : List ℤ) (i : ℕ) → Bounded 16777216 (plain ys) → first-from bad-sample i ys ≡ none
+unfolding Bounded plain first-from
+none-bad [] i h = refl
+none-bad (y ∷ ys) i h = rw (le-ltb 16777216 (natAbs y) (h .0)) (none-bad ys (suc i) (h .1))
+
+module _ (ys : List ℤ) (L : ℕ) where
+  -- an answer that 1, 2, 4 and 3 are not comes after them
+  pub limits-past : {A : Type 0} {x a : Answer A} → ((number place : ℕ) → number < 5 → refused number place ≡ a → ⊥) → in-limits ys L x ≡ a → Limited ys L × (x ≡ a)
+  limits-past n e =
+      let e1 = if-past (eqb (length ys) 0) (n 1 0 (omega arith)) e in
+      let e2 = if-past (ltb 65536 (length ys)) (n 2 0 (omega arith)) (e1 .1) in
+      let e4 = if-past (ltb 1099511627776 L) (n 4 0 (omega arith)) (e2 .1) in
+      let e3 = at-past (first bad-sample ys) (λ p. n 3 p (omega arith)) (e4 .1) in
+      let k = eqb-false (length ys) 0 (e1 .0) in
+      (record { some = omega arith; few = ltb-false _ _ (e2 .0); smooth = ltb-false _ _ (e4 .0); samples = bounded ys 1 (e3 .0) }, e3 .1)
+
+  -- so does a value
+  pub limits-given : {A : Type 0} {x : Answer A} {v : A} → in-limits ys L x ≡ given v → Limited ys L × (x ≡ given v)
+  limits-given = limits-past (λ number place h e. never e)
+
+  pub limits-passed : {A : Type 0} (rest : Answer A) → Limited ys L → in-limits ys L rest ≡ rest
+  limits-passed rest w =
+      let n : length ys ≡ 0 → ⊥ = λ e. omega (arith, w .some) in
+      rw (ne-eqb (length ys) 0 n, le-ltb 65536 (length ys) (w .few), le-ltb 1099511627776 L (w .smooth), none-bad ys 1 (w .samples))
+
+  -- they do not ask what comes after them
+  pub limits-alike : {A B : Type 0} {x a : Answer A} {y b : Answer B} → Alike x y a b → Alike x y (in-limits ys L a) (in-limits ys L b)
+  limits-alike r =
+      if-alike (eqb (length ys) 0) 1 0
+      (if-alike (ltb 65536 (length ys)) 2 0
+      (if-alike (ltb 1099511627776 L) 4 0
+      (at-alike (first bad-sample ys) 3 r)))

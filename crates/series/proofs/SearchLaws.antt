@@ -1,0 +1,39 @@
+-- Searches for the first that a test picks, along what is left of a list, and the places that they name.
+use mathlib.Core.Path.{_≡_, refl}
+use mathlib.Core.Bool.{Bool, true, false}
+use mathlib.Core.List.{List, [], _∷_}
+use mathlib.Core.Option.{Option, none, some}
+use native.Mathlib.Omega.{arith}
+use Prim.Native.Nat.{ℕ, zero, suc, _<_, _≤_}
+use lib.ListN.{length, getD, drop, drop-of-length-le}
+use lib.Seq.{drop-cons}
+use Rattle.series.specs.Search.{found, first-from, place-of}
+
+pub place-some : (k : ℕ) → 0 < k → place-of k ≡ some k
+place-some zero h = absurd (omega arith)
+place-some (suc k) h = refl
+
+pub place-none : (k : ℕ) → k ≤ 0 → place-of k ≡ none
+place-none zero h = refl
+place-none (suc k) h = absurd (omega arith)
+
+module _ {A : Type 0} (picks : A → Bool) (l : List A) (k : ℕ) where
+  -- one more, and the end
+  pub next : (x : A) → k < length l → first-from picks (suc k) (drop k l) ≡ found (picks (getD l k x)) (suc k) (first-from picks (suc (suc k)) (drop (suc k) l))
+  unfolding first-from
+  next x h = rw (drop-cons l k x h)
+
+  pub past : length l ≤ k → first-from picks (suc k) (drop k l) ≡ none
+  unfolding first-from
+  past h = rw (drop-of-length-le l h)
+
+-- none is found: the test does not pick the first, nor any after it
+pub none-found : (b : Bool) (i : ℕ) (rest : Option ℕ) → found b i rest ≡ none → (b ≡ false) × (rest ≡ none)
+none-found true i rest e = let z : _≡_ {A = ℕ} 0 1 = cc in absurd (omega arith)
+none-found false i rest e = (refl, e)
+
+pub none-picked : {A : Type 0} (picks : A → Bool) (l : List A) (i : ℕ) → first-from picks i l ≡ none → (x : A) (k : ℕ) → k < length l → picks (getD l k x) ≡ false
+unfolding first-from
+none-picked picks [] i e x k h = absurd (omega arith)
+none-picked picks (y ∷ l) i e x zero h = none-found (picks y) i _ e .0
+none-picked picks (y ∷ l) i e x (suc k) h = none-picked picks l (suc i) (none-found (picks y) i _ e .1) x k (omega arith)
