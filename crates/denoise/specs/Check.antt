@@ -1,4 +1,4 @@
--- The check of a line that somebody else drew: refusals 1, 2, 4, 3, 6, 7, 8, 9 (paper 01, "Sheets sent back").
+-- The check of a line that somebody else drew: refusals 1, 2, 4, 3, 6, 7, 8, 9 (RULES 5.5).
 use mathlib.Core.List.{List}
 use Prim.Native.Nat.{ℕ}
 use lib.Dec.{eqb, ltb}
