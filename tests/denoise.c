@@ -1,4 +1,4 @@
-/* Compares line, balances and the two checks, through their C entries, with implementations written from the paper alone: every pattern of rises and
+/* Compares line, balances and the two checks, through their C entries, with other implementations of docs/RULES.md: every pattern of rises and
  * falls for short series, a taut string with two hulls for long ones, the conditions minute by minute for checks. Every refusal beside those that come
  * after it. Prints one line of counts, or the first input on which they differ.
  *
@@ -146,7 +146,7 @@ static void compare_all(const int32_t *y, size_t n, uint64_t lambda, const Line 
     compare_checks(y, n, lambda, line, 0, rounds);
 }
 
-/* ---- series of up to 6 minutes: paper 01's table of known lines, then every series over a few values, with several smoothings */
+/* ---- series of up to 6 minutes: the known lines of RULES 2.6, then every series over a few values, with several smoothings */
 static void compare_short(const int32_t *y, size_t n, uint64_t lambda, const Line *line, int rounds)
 {
     static Line tried;

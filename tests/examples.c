@@ -1,4 +1,4 @@
-/* Prints what the client and the program must print for a sheet, by the implementation written from the papers alone.
+/* Prints what the client and the program must print for a sheet, by another implementation of docs/RULES.md.
  *
  *     examples SHEET */
 #include <inttypes.h>

@@ -45,7 +45,7 @@ void expect(int i, const void *entries, size_t bytes);
 /* that the call's result and areas are what they must be; the areas are given back. Returns the result */
 i64 judge(i64 want, i64 got);
 
-/* that a call, just compared with the paper's implementation, got what is written by hand */
+/* that a call, just compared with the other implementation, got what is written by hand */
 void must(i64 got, i64 want);
 
 /* the end of a test's line of counts: how often each refusal was met, and that all agree */

@@ -1,5 +1,5 @@
 /* Reads and writes sheets and draws charts through the C entries, and compares results, every entry and byte of the lent areas, written or not, and
- * the inputs with an implementation written from paper 01 alone. Known lines; every refusal beside those that come after it; lists exact, too short
+ * the inputs with another implementation of docs/RULES.md. Known lines; every refusal beside those that come after it; lists exact, too short
  * and longer; 1, 1,440, 1,441 and 65,536 minutes; random and damaged sheets, and lists of any shape; the stack that the header names.
  *
  *     lists [COUNT [GUARD]]      COUNT random sheets (default 40000)
@@ -203,7 +203,7 @@ static void known(void)
         everywhere(k->y, k->n, k->lambda, &line);
         chart(k->n, &line, 1);
     }
-    /* the paper's -1.5; a total of 0 is plus zero; a fall, a rise, and a plain level before and after it */
+    /* the -1.5 of RULES 2.6; a total of 0 is plus zero; a fall, a rise, and a plain level before and after it */
     double v[2], zero = 0;
     must(chart_mark(2, (uint32_t[]){2}, 1, (i64[]){-3}, 1, 1, v, 2), 0);
     must(v[0] == -1.5 && v[1] == -1.5, 1);
@@ -339,7 +339,7 @@ static void chart_refusals(void)
         }
 }
 
-/* the examples of the paper's table that are not among those */
+/* the examples of RULES 4.3 that are not among those */
 static void paper_refusals(void)
 {
     static const size_t two[] = {2, 2, 2, 3};

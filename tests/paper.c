@@ -23,7 +23,7 @@ i64 refusal(i64 number, i64 place)
     return -(256 * place + number);
 }
 
-/* ---- the check, from the paper: 1, 2, 4, 3, 6, 7, 8, 9. Lists of unequal length are given by the count of totals */
+/* ---- the check (RULES 5.5): 1, 2, 4, 3, 6, 7, 8, 9. Lists of unequal length are given by the count of totals */
 i64 paper_limits(const int32_t *y, size_t n, uint64_t lambda)
 {
     if (n == 0)
@@ -251,7 +251,7 @@ const Judged judged_lines[JUDGED] = {
     {2, 2, {2, 2}, {1, 16}, 9, 4},
 };
 
-/* ---- the sheet, from the paper's table */
+/* ---- the sheet (RULES 6.1, 6.2) */
 uint64_t get(const uint8_t *p, int width)
 {
     uint64_t x = 0;

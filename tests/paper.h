@@ -1,5 +1,5 @@
-/* Paper 01 and Condat 2013 again, written from the papers alone: what the library is compared with. The taut string and the sheets also serve
- * the measurements of bench/. */
+/* Another implementation of docs/RULES.md, which shares nothing with the library: what the library is compared with. The taut string and the sheets also
+ * serve the measurements of bench/. */
 #ifndef PAPER_H
 #define PAPER_H
 
@@ -40,7 +40,7 @@ int paper_line_short(const int32_t *y, size_t n, uint64_t lambda, Line *out);
 /* the line of any series, by a taut string, in linear time */
 void paper_line_long(const int32_t *y, size_t n, uint64_t lambda, Line *out);
 
-/* the paper's table of known lines */
+/* the known lines of RULES 2.6 */
 enum { KNOWN = 13 };
 typedef struct {
     size_t n;

@@ -1,5 +1,5 @@
 #!/usr/bin/env python3
-"""Writes the stored sheets of crates/sheet_cases and what the program must print, from the paper.
+"""Writes the stored sheets of crates/sheet_cases and what the program must print, from docs/RULES.md.
 
     python3 tests/sheet_cases.py          writes crates/sheet_cases/src/vectors.rt and crates/sheet_cases/stdout
     python3 tests/sheet_cases.py --check  only compares

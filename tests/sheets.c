@@ -1,5 +1,5 @@
-/* Completes sheets through the C entry and compares result, every output byte and untouched memory with an implementation written from paper 01
- * alone: sheets without a line, with their line, damaged in a bit, a field, a segment or their length, outputs exact, too short and too long.
+/* Completes sheets through the C entry and compares result, every output byte and untouched memory with another implementation of
+ * docs/RULES.md: sheets without a line, with their line, damaged in a bit, a field, a segment or their length, outputs exact, too short and too long.
  *
  *     sheets [COUNT [GUARD]]      COUNT random sheets (default 200000), then long ones
  *

@@ -1,4 +1,4 @@
--- The chart of a line (paper 01, "The chart"): refusals 1, 2, 6, 7, 8 as the shape of a line has them, then 13.
+-- The chart of a line (RULES 7.1 to 7.5): refusals 1, 2, 6, 7, 8 as the shape of a line has them, then 13.
 use mathlib.Core.Bool.{Bool, true, false, cond}
 use mathlib.Core.List.{List, [], _∷_}
 use mathlib.Core.Option.{Option, none, some}

@@ -1,4 +1,4 @@
--- All segments of a line at once, in three lent lists: refusals 1, 2, 6, 7, 8, then 5 where a list has fewer entries than the line has segments.
+-- All segments of a line at once (RULES 7.4), in three lent lists: refusals 1, 2, 6, 7, 8, then 5 where a list has fewer entries than the line has segments.
 use mathlib.Core.List.{List, [], _∷_, map}
 use Prim.Native.Nat.{ℕ, _+_}
 use lib.Dec.{eqb, ltb}

@@ -1,4 +1,4 @@
--- The check of a line that somebody else drew: refusals 1, 2, 4, 3, 6, 7, 8, 9 (paper 01, "Sheets sent back").
+-- The check of a line that somebody else drew: refusals 1, 2, 4, 3, 6, 7, 8, 9 (RULES 5.5).
 use mathlib.Core.Path.{_≡_}
 use mathlib.Core.Logic.{_↔_}
 use mathlib.Core.List.{List}

@@ -1,4 +1,4 @@
--- The shape of a line for a series of n minutes: refusals 6, 7 and 8 (paper 01, "Sheets sent back").
+-- The shape of a line for a series of n minutes: refusals 6, 7 and 8 (RULES 4.3, 5.4).
 use mathlib.Core.Bool.{Bool, not, _||_}
 use mathlib.Core.List.{List, [], _∷_}
 use mathlib.Core.Option.{Option, none}

@@ -1,5 +1,5 @@
 -- What the report says of every input. One of these holds: it is too long, it is sent back, it has more than 1,024 minutes, or the rows are the
--- segments that its completed sheet holds (paper 01, "Known lines").
+-- segments that its completed sheet holds (RULES 9.2).
 use mathlib.Core.Path.{_≡_, refl, sym, ap, ap₂, _∙_}
 use mathlib.Core.Bool.{_||_}
 use mathlib.Core.List.{List, [], _∷_}

@@ -1,4 +1,4 @@
--- Paper 01's example, whole, and a sheet sent back, by computing the report.
+-- The example of RULES 9.2, whole, and a sheet sent back, by computing the report.
 use mathlib.Core.Path.{_≡_, refl}
 use mathlib.Core.List.{List, [], _∷_, _++_}
 use Prim.Native.Nat.{ℕ}

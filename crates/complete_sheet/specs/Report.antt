@@ -1,4 +1,4 @@
--- What the program prints for a sheet (paper 01, "Known lines"), as ASCII codes.
+-- What the program prints for a sheet (RULES 9.2), as ASCII codes.
 use mathlib.Core.Path.{_≡_}
 use mathlib.Core.Bool.{cond}
 use mathlib.Core.List.{List, [], _∷_, _++_}

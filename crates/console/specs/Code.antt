@@ -1,4 +1,4 @@
--- A result for C: a count, or minus (256 times the place, plus the number) for a refusal (paper 01, "The sheet").
+-- A result for C: a count, or minus (256 times the place, plus the number) for a refusal (RULES 8.2).
 use Prim.Native.Nat.{ℕ, _+_, _*_, min}
 use lib.IntN.{ℤ, pos, negℤ}
 use Rattle.level.specs.Answer.{Answer, refused, given}
@@ -24,7 +24,7 @@ code-of-all count (refused number place) = refusal number place
 abbrev pub farthest : ℕ
 farthest = 18014398509481984
 
--- Where a line is handed over, the place of a length of 0 is bounded by that list's entries alone. One above 2^54 is told as 2^54.
+-- Where a line is handed over, the place of a length of 0 is bounded by that list's entries alone. One above 2^54 is told as 2^54 (RULES 8.3).
 abbrev pub told : {A : Type 0} → Answer A → Answer A
 told (given x) = given x
 told (refused number place) = refused number (min place farthest)

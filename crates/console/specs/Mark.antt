@@ -1,4 +1,4 @@
--- A chart mark for C (paper 01, "The chart"): its kind, and the plotted levels before and after, for a plain level the one twice. Refusals 1, 2, 6, 7, 8, 13,
+-- A chart mark for C (RULES 8.4): its kind, and the plotted levels before and after, for a plain level the one twice. Refusals 1, 2, 6, 7, 8, 13,
 -- then 5 where the list has no two entries.
 use mathlib.Core.List.{List, [], _∷_}
 use Prim.Native.Nat.{ℕ}

@@ -1,4 +1,4 @@
--- A sheet read for C (paper 01, "The sheet"): N, M and L in the first three fields, and M as the result. The reader's refusals, its 5 for the list of fields
+-- A sheet read for C (RULES 8.4): N, M and L in the first three fields, and M as the result. The reader's refusals, its 5 for the list of fields
 -- too where that has under 3 entries.
 use mathlib.Core.Bool.{_||_}
 use mathlib.Core.List.{List, [], _∷_}

@@ -1,4 +1,4 @@
--- What `line` leaves in the lists (demands 2 and 3): the first entries are the one line of the series that meets (6) and (7), no rival costs less, and
+-- What `line` leaves in the lists (RULES 2.3, 2.5): the first entries are the one line of the series that meets (6) and (7), no rival costs less, and
 -- every later entry is what it was.
 use mathlib.Core.Path.{_≡_, refl, sym, ap, ap₂, _∙_, subst}
 use mathlib.Core.Bool.{_||_}

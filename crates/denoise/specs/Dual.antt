@@ -1,4 +1,4 @@
--- The dual of a series (paper 01's balances): u[k] times the length of the segment that holds minute k. Refusals 1, 2, 4, 3, 5.
+-- The dual of a series (the balances of RULES 2.4): u[k] times the length of the segment that holds minute k. Refusals 1, 2, 4, 3, 5 (RULES 5.2).
 use mathlib.Core.List.{List, [], _∷_, _++_}
 use Prim.Native.Nat.{ℕ, _/_}
 use lib.Dec.{ltb}

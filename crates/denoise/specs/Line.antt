@@ -1,4 +1,4 @@
--- The line of a series: refusals 1, 2, 4, 3, 5, then the only line that meets (6) and (7) of Condat 2013 (paper 01, "The line").
+-- The line of a series: refusals 1, 2, 4, 3, 5, then the only line that meets (6) and (7) of Condat 2013 (RULES 5.1, 2.3).
 use mathlib.Core.Bool.{_||_}
 use mathlib.Core.List.{List}
 use Prim.Native.Nat.{ℕ}

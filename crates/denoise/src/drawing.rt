@@ -1,4 +1,4 @@
-// The segments of a line, written as they end.
+// The segments of a line, written as they end. The steps are those of Condat 2013.
 
 ghost use mathlib.Core.Path.{_≡_};
 ghost use Prim.Native.Nat.{_≤_, _<_};

@@ -44,7 +44,7 @@ pub fn line(samples: &[i32], smoothing: u64, lengths: &mut [u32], totals: &mut [
     Drawn::Segments(drawing::draw(samples, smoothing, lengths, totals))
 }
 
-// The dual of a series (paper 01's balances), minute by minute: each times the length of the segment that holds its minute.
+// The dual of a series (the balances of RULES 2.4), minute by minute: each times the length of the segment that holds its minute.
 pub fn balances(samples: &[i32], smoothing: u64, out: &mut [i64]) -> Filled
     ensures answer { λ r. ⌜ filled r ≡ balancesOf (now (samples .entry)) smoothing (now (out .entry)) ⌝ }
     ensures out { λ r. ⌜ now (out .exit) ≡ balancesAfter (now (samples .entry)) smoothing (now (out .entry)) ⌝ }

@@ -1,4 +1,4 @@
-// The ten steps of Condat 2013 in whole numbers, as optimality's Machine tells them: "step 3" is the paper's step 3.
+// The ten steps of Condat 2013 in whole numbers, as optimality's Machine tells them: "step 3" is step 3 there.
 
 ghost use mathlib.Core.Path.{_≡_};
 ghost use mathlib.Core.Bool.{true, false};

@@ -1,4 +1,4 @@
-// The dual along a line, written minute by minute.
+// The dual along a line, written minute by minute. The steps are those of Condat 2013.
 
 ghost use mathlib.Core.Path.{_≡_};
 ghost use Prim.Native.Nat.{_≤_, _<_};

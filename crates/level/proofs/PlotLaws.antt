@@ -30,7 +30,7 @@ plus-zero length h = round-same binary64 false 0 length 0 1 h (lit< tt) (mul-one
     zero : round binary64 false 0 1 ≡ fin false 0 (pos 0)
     zero = unfold round in refl
 
--- the starred row of paper 01's known lines: (2, −3) plots as −1.5, which is −3 * 2 ^ -1
+-- the plotted row of the known lines (RULES 2.6): (2, −3) plots as −1.5, which is −3 * 2 ^ -1
 pub known-plot : nearestTo (record { length = 2; total = negsuc 2 }) ≡ fin true 3 (negsuc 0)
 known-plot = unfold round in refl
 

@@ -1,4 +1,4 @@
--- What an answer says in paper 01's terms: a refusal's number and place, or the value given.
+-- What an answer says (RULES 4.1): a refusal's number and place, or the value given.
 use Prim.Native.Nat.{ℕ}
 use mathlib.Core.Bool.{Bool, true, false}
 use mathlib.Core.Option.{Option, none, some}

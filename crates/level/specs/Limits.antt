@@ -1,4 +1,4 @@
--- A level's limits: 1 to 65,536 minutes, and at most 16,777,216 tenths either way (paper 01, "The line").
+-- A level's limits: 1 to 65,536 minutes, and at most 16,777,216 tenths either way (RULES 1.2, 3.1).
 use Prim.Native.Nat.{ℕ, _*_, _≤_}
 use mathlib.Core.Bool.{Bool, _||_}
 use lib.Dec.{eqb, ltb}

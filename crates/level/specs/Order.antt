@@ -1,4 +1,4 @@
--- Levels are compared by the sign of a cross product of total and length (paper 01, "The line").
+-- Levels are compared by the sign of a cross product of total and length (RULES 3.2).
 use mathlib.Core.Bool.{cond}
 use lib.IntN.{ℤ, pos, negsuc, _*ℤ_, _-ℤ_}
 use lib.Signed.{ltZ}

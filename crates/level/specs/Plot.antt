@@ -1,4 +1,4 @@
--- The plotted level: total / length, rounded once to the nearest f64, ties to even (paper 01, "The chart").
+-- The plotted level: total / length, rounded once to the nearest f64, ties to even (RULES 3.4).
 use mathlib.Core.Path.{_≡_}
 use mathlib.Core.Bool.{Bool, true, false}
 use Prim.Native.Nat.{ℕ, _*_, _%_, _≤_}

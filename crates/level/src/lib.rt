@@ -12,7 +12,7 @@ pub struct Level {
     pub total: i64,
 }
 
-// A refusal has the paper's number and place.
+// A refusal has a number and a place (RULES 4.3).
 pub enum Made {
     Valid(Level),
     Refused(u32, usize),

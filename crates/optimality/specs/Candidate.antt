@@ -1,4 +1,4 @@
--- A line is the minimum (demand 3): over a common scale Q a candidate's cost times 2 Q² is (Q / q)² times that over q, so all that Optimum.antt
+-- A line is the minimum (RULES 2.5): over a common scale Q a candidate's cost times 2 Q² is (Q / q)² times that over q, so all that Optimum.antt
 -- says of numerators over Q is said of it.
 use mathlib.Core.Path.{_≡_, refl, sym, _∙_, ap, ap₂}
 use mathlib.Core.List.{List, [], _∷_}

@@ -1,5 +1,5 @@
 -- Conditions (6) and (7) of Condat 2013, minute by minute. The level at minute k is the fraction x[k] / Q, with one scale Q for the whole
--- line: xs are its numerators. The dual u (paper 01's balance) is told as Q u. It goes from u[0] = a to u[N] = b, which are 0 and 0 for a whole series.
+-- line: xs are its numerators. The dual u (the balance of RULES 2.3) is told as Q u. It goes from u[0] = a to u[N] = b, which are 0 and 0 for a whole series.
 use mathlib.Core.Path.{_≡_}
 use mathlib.Core.List.{List, [], _∷_}
 use Prim.Native.Nat.{ℕ, zero, suc, _-_, _≤_, _<_}

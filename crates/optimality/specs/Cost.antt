@@ -1,4 +1,4 @@
--- The cost of a line whose levels are zs over Q, times 2 Q² (paper 01, "The line"; Condat 2013, (1)): nothing is halved, so all is whole.
+-- The cost of a line whose levels are zs over Q, times 2 Q² (RULES 2.5; Condat 2013, (1)): nothing is halved, so all is whole.
 use mathlib.Core.List.{List, [], _∷_}
 use lib.IntN.{ℤ, pos, _+ℤ_, _*ℤ_, _-ℤ_}
 use Rattle.integers.specs.Order.{absℤ}

@@ -1,4 +1,4 @@
--- Paper 01's known lines, its rows with a star: one theorem over one table, by computing the machine.
+-- The known lines of RULES 2.6, those with a star: one theorem over one table, by computing the machine.
 use mathlib.Core.Path.{_≡_, refl}
 use mathlib.Core.List.{List, [], _∷_, map}
 use Prim.Native.Nat.{ℕ}

@@ -41,7 +41,7 @@ pub record State : Type 0 where
   pub nmax : ℤ
   pub kmax : ℕ
 
--- ---- the paper's eight variables
+-- ---- the eight variables of Condat 2013, steps 1 to 10
 pub record Fraction : Type 0 where
   pub num : ℤ
   pub den : ℤ

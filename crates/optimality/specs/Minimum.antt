@@ -1,5 +1,5 @@
--- Demand 3 of the papers, as one line: `Minimum`, for any weights, and `PlainMinimum`, with the sums that paper 01 writes for a plain series.
--- A candidate (paper 01's rival) is N numerators ps over one q > 0. Q is any multiple of q and of each divisor of the line ss: over Q the
+-- The gap of RULES 2.5, as one line: `Minimum`, for any weights, and `PlainMinimum`, with the sums that RULES 2.5 writes for a plain series.
+-- A candidate (the rival of RULES 2.5) is N numerators ps over one q > 0. Q is any multiple of q and of each divisor of the line ss: over Q the
 -- candidate has the numerators (Q / q) p, and its cost times 2 Q² is (Q / q)² times its cost times 2 q².
 use mathlib.Core.Path.{_≡_}
 use mathlib.Core.List.{List, [], _∷_, map}

@@ -1,4 +1,4 @@
--- What is proved of the line of a plain series, in one place: it meets (6) and (7), it alone does, it is the minimum (demands 2 and 3), its
+-- What is proved of the line of a plain series, in one place: it meets (6) and (7), it alone does, it is the minimum (RULES 2.3, 2.5), its
 -- totals add up to the samples, and its levels stay in the samples' range.
 use mathlib.Core.Path.{_≡_}
 use mathlib.Core.List.{List}

@@ -1,4 +1,4 @@
--- The limits of a series and of its smoothing, as refusals 1, 2, 4 and 3 in that order (paper 01, "Sheets sent back").
+-- The limits of a series and of its smoothing, as refusals 1, 2, 4 and 3 in that order (RULES 1.2, 5.3).
 use mathlib.Core.Bool.{Bool}
 use mathlib.Core.List.{List}
 use Prim.Native.Nat.{ℕ}

@@ -1,4 +1,4 @@
--- What is promised of a line that a call leaves in lists, or passes (demands 2 and 3 of paper 01).
+-- What is promised of a line that a call leaves in lists, or passes (RULES 2.3, 2.5).
 use mathlib.Core.Path.{_≡_}
 use mathlib.Core.List.{List}
 use Prim.Native.Nat.{ℕ, _<_}

@@ -1,4 +1,4 @@
--- What completing promises (demands 2 and 3 of paper 01): the bytes written are a sheet with the samples and the smoothing of the one that was sent, its
+-- What completing promises (RULES 6.5, 2.3, 2.5): the bytes written are a sheet with the samples and the smoothing of the one that was sent, its
 -- line meets (6) and (7) and is the minimum, the sheet is accepted, and completing it again changes nothing.
 use mathlib.Core.Path.{_≡_, refl, sym, ap, ap₂, _∙_, subst}
 use mathlib.Core.Bool.{Bool, true, false, _&&_}

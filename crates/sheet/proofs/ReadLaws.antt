@@ -1,4 +1,4 @@
--- What the reader gives: a sheet that is accepted, and lists whose first entries are the sheet's, with its line where it has one (demand 2 of paper 01).
+-- What the reader gives: a sheet that is accepted, and lists whose first entries are the sheet's, with its line where it has one (RULES 6.3, 2.3).
 use mathlib.Core.Path.{_≡_, refl, sym, ap, ap₂, _∙_, subst}
 use mathlib.Core.List.{List}
 use mathlib.Core.Logic.{⊎-elim}

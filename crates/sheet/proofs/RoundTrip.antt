@@ -1,4 +1,4 @@
--- Round trips of the calls (demand 2 of paper 01): what was read is written with the same bytes, what was written is read as it was given, a sheet that has
+-- Round trips of the calls (RULES 6.6): what was read is written with the same bytes, what was written is read as it was given, a sheet that has
 -- its line is completed to itself, and completing again changes nothing.
 use mathlib.Core.Path.{_≡_, sym, ap, ap₂, _∙_, subst}
 use mathlib.Core.List.{List}

@@ -1,4 +1,4 @@
--- What a reader's answer says in paper 01's terms.
+-- What a reader's answer says: N, M and L, or a refusal (RULES 6.3).
 use mathlib.Core.List.{List}
 use Prim.Native.Nat.{ℕ}
 use Rattle.level.specs.Answer.{Answer, refused, given}

@@ -1,4 +1,4 @@
--- Completing: the reader's order, its 5 being for the output; the same sheet with its line (paper 01, "The sheet").
+-- Completing: the reader's order, its 5 being for the output; the same sheet with its line (RULES 6.5).
 use mathlib.Core.Path.{_≡_}
 use mathlib.Core.List.{List}
 use Prim.Native.Nat.{ℕ, _≤_}

@@ -1,4 +1,4 @@
--- The sheet's table (paper 01, "The sheet"): where its fields stand, the lists that it holds, and the bytes of a sheet that holds given lists.
+-- The sheet's table (RULES 6.1, 6.2): where its fields stand, the lists that it holds, and the bytes of a sheet that holds given lists.
 use mathlib.Core.List.{List, [], _∷_, _++_}
 use Prim.Native.Nat.{ℕ, zero, suc, _+_, _*_}
 use lib.ListN.{length, take, drop}

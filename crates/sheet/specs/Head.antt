@@ -1,4 +1,4 @@
--- A sheet's header: refusals 10, 1, 2, 11, 12, in that order (paper 01, "Sheets sent back").
+-- A sheet's header: refusals 10, 1, 2, 11, 12, in that order (RULES 6.1, 6.3).
 use mathlib.Core.Bool.{not, _||_}
 use mathlib.Core.List.{List}
 use mathlib.Core.Option.{Option, none}

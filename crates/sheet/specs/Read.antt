@@ -1,4 +1,4 @@
--- Reading: refusals 10, 1, 2, 11, 12, 4, 3, then where a line is filed the check's 6 to 9, then 5 (paper 01, "Sheets sent back").
+-- Reading: refusals 10, 1, 2, 11, 12, 4, 3, then where a line is filed the check's 6 to 9, then 5 (RULES 6.3).
 use mathlib.Core.Bool.{Bool, true, false, _||_, _&&_}
 use mathlib.Core.List.{List}
 use Prim.Native.Nat.{ℕ}

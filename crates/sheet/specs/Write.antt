@@ -1,4 +1,4 @@
--- Writing: refusals 1, 2, 4, 3, then 6 to 9 unless both line lists are empty, then 5 (paper 01, "Sheets sent back").
+-- Writing: refusals 1, 2, 4, 3, then 6 to 9 unless both line lists are empty, then 5 (RULES 6.4).
 use mathlib.Core.List.{List}
 use Prim.Native.Nat.{ℕ}
 use lib.Dec.{ltb}

@@ -1,4 +1,4 @@
-// Sheets: the archive's format, 32 bytes of header, then the samples, then the segments of the line (paper 01, "The sheet").
+// Sheets: the archive's format, 32 bytes of header, then the samples, then the segments of the line (RULES 6).
 ghost use mathlib.Core.Path.{_≡_};
 ghost use Prim.Native.Nat.{_<_};
 ghost use lib.ListN.{take};
@@ -31,7 +31,7 @@ pub struct Fields {
     pub smoothing: u64,
 }
 
-// A refusal has the paper's number and place.
+// A refusal has a number and a place (RULES 4.3).
 pub enum Reading {
     Valid(Fields),
     Refused(u32, usize),

@@ -1,5 +1,5 @@
 // Runs stored sheets through the reader, the writer and the completer and prints what each answers and what it leaves in lent memory.
-// tests/sheet_cases.py makes the sheets and `stdout` from the paper.
+// tests/sheet_cases.py makes the sheets and `stdout` from docs/RULES.md.
 
 use printing::put;
 use printing::put_refusal;
