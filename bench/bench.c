@@ -76,7 +76,7 @@ static Line other;
 static int64_t draw(int method)
 {
     switch (method) {
-    case OURS: return series_line(y, n, lambda, line.length, n, line.total, n);
+    case OURS: return dawhikura_series_line(y, n, lambda, line.length, n, line.total, n);
     case CLANG: return (int64_t)steps_clang(y, n, (int64_t)lambda, other.length, other.total);
     case GCC: return (int64_t)steps_gcc(y, n, (int64_t)lambda, other.length, other.total);
     case STRING: paper_line_long(y, n, lambda, &other); return (int64_t)other.n;
@@ -138,11 +138,11 @@ static int64_t handle(int task)
     switch (task) {
     case COPY: memcpy(out, whole, whole_size); return (int64_t)whole_size;
     case DRAW: return draw(OURS);
-    case CHECK: return series_check(y, n, lambda, line.length, line.n, line.total, line.n);
-    case COMPLETE: return sheet_complete(bare, bare_size, out, whole_size);
-    case CONFIRM: return sheet_complete(whole, whole_size, out, whole_size);
-    case READ: return sheet_read(whole, whole_size, samples, n, other.length, n, other.total, n, fields, 3);
-    default: return sheet_write(y, n, lambda, line.length, line.n, line.total, line.n, out, whole_size);
+    case CHECK: return dawhikura_series_check(y, n, lambda, line.length, line.n, line.total, line.n);
+    case COMPLETE: return dawhikura_sheet_complete(bare, bare_size, out, whole_size);
+    case CONFIRM: return dawhikura_sheet_complete(whole, whole_size, out, whole_size);
+    case READ: return dawhikura_sheet_read(whole, whole_size, samples, n, other.length, n, other.total, n, fields, 3);
+    default: return dawhikura_sheet_write(y, n, lambda, line.length, line.n, line.total, line.n, out, whole_size);
     }
 }
 

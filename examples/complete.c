@@ -41,7 +41,7 @@ int main(int argc, char **argv)
     }
     size_t n = fread(sheet, 1, sizeof sheet, f);
     fclose(f);
-    int64_t r = sheet_complete(sheet, n, out, sizeof out);
+    int64_t r = dawhikura_sheet_complete(sheet, n, out, sizeof out);
     if (r < 0) {
         printf("refused %" PRId64 " %" PRId64 "\n", -r % 256, -r / 256);
         return 1;
