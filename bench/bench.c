@@ -8,7 +8,7 @@
 #include <string.h>
 #include <time.h>
 
-#include "../include/dawhikura.h"
+#include <dawhikura.h>
 #include "../tests/paper.h"
 #include "../tests/random.h"
 #include "baselines.h"

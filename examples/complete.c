@@ -6,7 +6,7 @@
 #include <inttypes.h>
 #include <stdio.h>
 
-#include "../include/dawhikura.h"
+#include <dawhikura.h>
 
 /* No sheet is longer: 32 + 4 * 65,536 + 12 * 65,536. */
 enum { MOST = 1048608 };

@@ -1,26 +1,22 @@
 /* Reads and writes sheets and draws charts through the C entries, and compares results, every entry and byte of the lent areas, written or not, and
  * the inputs with an implementation written from paper 01 alone. Known lines; every refusal beside those that come after it; lists exact, too short
- * and longer; 1, 1,440, 1,441 and 65,536 minutes; random and damaged sheets, and lists of any shape; the stack that the header names.
+ * and longer; 1, 1,440, 1,441 and 65,536 minutes; random and damaged sheets, and lists of any shape.
  *
  *     lists [COUNT [GUARD]]      COUNT random sheets (default 40000)
  *
  * Each call gets areas of its own with GUARD bytes (default 64) around them (harness.h). With GUARD 0, for a run under valgrind, fewer sets of refusals
- * are tried and no stack.
+ * are tried.
  *
  * Seeds are fixed. A difference prints the seed and what was handed over. */
-#define _GNU_SOURCE
 #include <stdio.h>
-#include <stdlib.h>
 #include <string.h>
-#include <sys/mman.h>
-#include <ucontext.h>
 
-#include "../include/dawhikura.h"
+#include <dawhikura.h>
 #include "harness.h"
 #include "random.h"
 
-/* a day's minutes; the stack that the header names, for reading and completing sheets and for the other calls */
-enum { DAY = 1440, SHEET_STACK = (1 << 20) + 16384, LIST_STACK = 16384 };
+/* a day's minutes */
+enum { DAY = 1440 };
 
 static uint64_t state;
 static unsigned long reads, writes, segments, marks, completed;
@@ -452,81 +448,6 @@ static void random_sheets(void)
     random_lists();
 }
 
-/* ---- the stack that the header names */
-/* with nothing below it for as far as a call may reach */
-static void on_stack(size_t bytes, void (*calls)(void))
-{
-    enum { BELOW = 4 << 20 };
-    static ucontext_t here, there;
-    uint8_t *p = mmap(NULL, BELOW + bytes, PROT_READ | PROT_WRITE, MAP_PRIVATE | MAP_ANONYMOUS, -1, 0);
-    if (p == MAP_FAILED || mprotect(p, BELOW, PROT_NONE) || getcontext(&there)) {
-        printf("no stack to test with\n");
-        exit(1);
-    }
-    there.uc_stack.ss_sp = p + BELOW;
-    there.uc_stack.ss_size = bytes;
-    there.uc_link = &here;
-    makecontext(&there, calls, 0);
-    swapcontext(&here, &there);
-    munmap(p, BELOW + bytes);
-}
-
-static int32_t stack_y[MOST], stack_samples[MOST];
-static Line stack_line;
-static dawhikura_segment stack_records[MOST];
-static i64 stack_totals[MOST], answers[7];
-static uint32_t stack_lengths[MOST], stack_lasts[MOST];
-static double stack_levels[MOST];
-
-static void list_calls(void)
-{
-    size_t m = stack_line.n;
-    answers[0] = dawhikura_series_line(stack_y, MOST, 50, stack_lengths, MOST, stack_totals, MOST);
-    answers[1] = dawhikura_series_balances(stack_y, MOST, 50, stack_totals, MOST);
-    answers[2] = dawhikura_series_check(stack_y, MOST, 50, stack_line.length, m, stack_line.total, m);
-    answers[3] = dawhikura_series_check_segments(stack_y, MOST, 50, stack_records, m);
-    answers[4] = dawhikura_chart_segments(MOST, stack_line.length, m, stack_line.total, m, stack_lengths, MOST, stack_lasts, MOST, stack_levels, MOST);
-    answers[5] = dawhikura_chart_mark(MOST, stack_line.length, m, stack_line.total, m, MOST, stack_levels, 2);
-    answers[6] = dawhikura_sheet_write(stack_y, MOST, 50, stack_line.length, m, stack_line.total, m, sheet, SHEET);
-}
-
-/* the sheet with its line read, with too few fields too, and completed; then completed without its line */
-static void sheet_calls(void)
-{
-    uint64_t fields[3];
-    size_t n = get(sheet, 4), m = get(sheet + 4, 4), size = get(sheet + 24, 4);
-    answers[0] = dawhikura_sheet_read(sheet, size, stack_samples, n, stack_lengths, n, stack_totals, n, fields, 3);
-    answers[1] = dawhikura_sheet_read(sheet, size, stack_samples, n, stack_lengths, n, stack_totals, n, fields, 2);
-    answers[2] = dawhikura_sheet_complete(sheet, size, other, SHEET);
-    put(sheet + 4, 4, 0);
-    put(sheet + 24, 4, 32 + 4 * n);
-    answers[3] = dawhikura_sheet_complete(sheet, 32 + 4 * n, other, SHEET);
-    put(sheet + 4, 4, m);
-    put(sheet + 24, 4, size);
-}
-
-static void answered(const i64 *want, int count)
-{
-    for (int i = 0; i < count; i++)
-        must(answers[i], want[i]);
-}
-
-static void stacks(void)
-{
-    for (size_t i = 0; i < MOST; i++)
-        stack_y[i] = random_sample(&state, 1);
-    paper_line_long(stack_y, MOST, 50, &stack_line);
-    i64 m = (i64)stack_line.n, size = (i64)paper_sheet(sheet, stack_y, MOST, 50, &stack_line);
-    on_stack(SHEET_STACK, sheet_calls);
-    answered((i64[]){m, refusal(5, 0), size, size}, 4);
-    for (size_t s = 0; s < stack_line.n; s++) {
-        stack_records[s].length = stack_line.length[s];
-        stack_records[s].total = stack_line.total[s];
-    }
-    on_stack(LIST_STACK, list_calls);
-    answered((i64[]){m, MOST, 0, 0, m, 0, size}, 7);
-}
-
 int main(int argc, char **argv)
 {
     unsigned long count = arguments(argc, argv, 40000);
@@ -542,8 +463,6 @@ int main(int argc, char **argv)
     }
     seed = state = 12345;
     long_series();
-    if (guard)
-        stacks();
     printf("reads %lu writes %lu charts %lu marks %lu completed %lu", reads, writes, segments, marks, completed);
     print_agreed();
     return 0;

@@ -9,7 +9,7 @@
 #include <stdio.h>
 #include <string.h>
 
-#include "../include/dawhikura.h"
+#include <dawhikura.h>
 #include "harness.h"
 #include "random.h"
 
