@@ -62,7 +62,8 @@ static void compare_balances(const int32_t *y, size_t n, uint64_t lambda, const 
 static i64 compare_check(const int32_t *y, size_t n, uint64_t lambda, const uint32_t *length, size_t lengths, const i64 *total, size_t totals)
 {
     static dawhikura_segment segments[MOST];
-    handed = (Handed){.call = "dawhikura_series_check", .y = y, .minutes = n, .lambda = lambda, .length = length, .lengths = lengths, .total = total, .totals = totals};
+    handed = (Handed){.call = "dawhikura_series_check", .y = y, .minutes = n, .lambda = lambda, .length = length, .lengths = lengths,
+                      .total = total, .totals = totals};
     i64 expected = paper_check(y, n, lambda, length, lengths, total, totals);
     checks++;
     passed += expected == 0;

@@ -1,5 +1,6 @@
-// The check of a run of segment records, for C. It has an archive of its own: where one archive has both checks, the compiler lets them share their step and
-// hands it the walk in memory, and dawhikura_series_check took twice as long on an hour or a day and a sixth longer on a month.
+// The check of a run of segment records, for C. It is compiled by itself, to an object of its own in the library: where one object has both checks, the
+// compiler lets them share their step and hands it the walk in memory, and dawhikura_series_check took twice as long on an hour or a day and a sixth longer
+// on a month.
 
 ghost use mathlib.Core.Path.{_≡_};
 ghost use Prim.Native.Nat.{_≤_};
