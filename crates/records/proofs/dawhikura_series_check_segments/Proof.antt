@@ -1,5 +1,5 @@
--- `records::dawhikura_series_check_segments` meets its contract: a walk of its MIR, by hand. It hands its lent run of segments to `denoise::check_segments`, and what
--- that answers to `verdict`.
+-- `records::dawhikura_series_check_segments` meets its contract: a walk of its MIR, by hand. It hands its lent run of segments to `denoise::check_segments`, and
+-- what that answers to `verdict`.
 mod Callees
 mod Exit
 mod Locals
