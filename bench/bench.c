@@ -8,7 +8,7 @@
 #include <string.h>
 #include <time.h>
 
-#include "../include/dawhikura.h"
+#include <dawhikura.h>
 #include "../tests/paper.h"
 #include "../tests/random.h"
 #include "baselines.h"
@@ -68,7 +68,27 @@ static void print_ratio(double over)
 }
 
 /* ---- lines */
-enum { OURS, CLANG, GCC, STRING, CONDAT, METHODS };
+/* the kit's clang is left out where it is not at hand */
+enum {
+    OURS,
+#ifndef NO_CLANG
+    CLANG,
+#endif
+    CC,
+    STRING,
+    CONDAT,
+    METHODS
+};
+
+static const char *const columns[] = {
+    "ours",
+#ifndef NO_CLANG
+    "clang",
+#endif
+    "cc",
+    "string",
+    "Condat"
+};
 
 static double yd[MOST], xd[MOST];
 static Line other;
@@ -76,9 +96,11 @@ static Line other;
 static int64_t draw(int method)
 {
     switch (method) {
-    case OURS: return series_line(y, n, lambda, line.length, n, line.total, n);
+    case OURS: return dawhikura_series_line(y, n, lambda, line.length, n, line.total, n);
+#ifndef NO_CLANG
     case CLANG: return (int64_t)steps_clang(y, n, (int64_t)lambda, other.length, other.total);
-    case GCC: return (int64_t)steps_gcc(y, n, (int64_t)lambda, other.length, other.total);
+#endif
+    case CC: return (int64_t)steps_cc(y, n, (int64_t)lambda, other.length, other.total);
     case STRING: paper_line_long(y, n, lambda, &other); return (int64_t)other.n;
     default: condat_double(yd, xd, n, (double)lambda); return 0;
     }
@@ -99,13 +121,12 @@ static int near(void)
 
 static void judge_line(int method, int64_t m)
 {
-    static const char *const methods[] = {"ours", "steps by clang", "steps by gcc", "taut string", "Condat"};
     if (method == OURS)
         line.n = (size_t)m;
     else
         other.n = (size_t)m;
     if (method != OURS && !(method == CONDAT ? near() : same_line(&line, &other)))
-        differ(methods[method]);
+        differ(columns[method]);
 }
 
 /* by the first `methods` of the methods */
@@ -119,7 +140,7 @@ static void line_row(const char *name, int methods)
     for (int i = 0; i < methods; i++)
         print_time(best[i]);
     printf("%*s", 7 * (METHODS - methods) + 1, "");
-    for (int i = CLANG; i < methods; i++)
+    for (int i = OURS + 1; i < methods; i++)
         print_ratio(best[OURS] / best[i]);
     printf("\n");
     fflush(stdout);
@@ -138,11 +159,11 @@ static int64_t handle(int task)
     switch (task) {
     case COPY: memcpy(out, whole, whole_size); return (int64_t)whole_size;
     case DRAW: return draw(OURS);
-    case CHECK: return series_check(y, n, lambda, line.length, line.n, line.total, line.n);
-    case COMPLETE: return sheet_complete(bare, bare_size, out, whole_size);
-    case CONFIRM: return sheet_complete(whole, whole_size, out, whole_size);
-    case READ: return sheet_read(whole, whole_size, samples, n, other.length, n, other.total, n, fields, 3);
-    default: return sheet_write(y, n, lambda, line.length, line.n, line.total, line.n, out, whole_size);
+    case CHECK: return dawhikura_series_check(y, n, lambda, line.length, line.n, line.total, line.n);
+    case COMPLETE: return dawhikura_sheet_complete(bare, bare_size, out, whole_size);
+    case CONFIRM: return dawhikura_sheet_complete(whole, whole_size, out, whole_size);
+    case READ: return dawhikura_sheet_read(whole, whole_size, samples, n, other.length, n, other.total, n, fields, 3);
+    default: return dawhikura_sheet_write(y, n, lambda, line.length, line.n, line.total, line.n, out, whole_size);
     }
 }
 
@@ -228,14 +249,25 @@ static void ramp_rows(void)
     ramp();
     line_row("ramp", METHODS);
     worst();
-    line_row("worst ramp", n == 1440 ? METHODS : GCC); /* to save time */
+    line_row("worst ramp", n == 1440 ? METHODS : CC); /* to save time */
+}
+
+static void print_columns(void)
+{
+    printf("%-32s %-*s ours over\n", "line", 7 * METHODS, "ns a minute");
+    printf("input           minutes segments");
+    for (int i = OURS; i < METHODS; i++)
+        printf(" %6s", columns[i]);
+    printf(" ");
+    for (int i = OURS + 1; i < METHODS; i++)
+        printf(" %6s", columns[i]);
+    printf("\n");
 }
 
 int main(void)
 {
     static const size_t sizes[] = {1440, 44640, MOST}, sheets[] = {60, 44640, MOST};
-    printf("%-32s %-35s ours over\n", "line", "ns a minute");
-    printf("input           minutes segments   ours  clang    gcc string Condat   clang    gcc string Condat\n");
+    print_columns();
     for (int s = 0; s < 3; s++) {
         n = sizes[s];
         noise_rows();

@@ -6,7 +6,7 @@
 #include <inttypes.h>
 #include <stdio.h>
 
-#include "../include/dawhikura.h"
+#include <dawhikura.h>
 
 /* No sheet is longer: 32 + 4 * 65,536 + 12 * 65,536. */
 enum { MOST = 1048608 };
@@ -41,7 +41,7 @@ int main(int argc, char **argv)
     }
     size_t n = fread(sheet, 1, sizeof sheet, f);
     fclose(f);
-    int64_t r = sheet_complete(sheet, n, out, sizeof out);
+    int64_t r = dawhikura_sheet_complete(sheet, n, out, sizeof out);
     if (r < 0) {
         printf("refused %" PRId64 " %" PRId64 "\n", -r % 256, -r / 256);
         return 1;

@@ -1,11 +1,15 @@
-/* The level line of a month of mail delay, from C. Link target/staticlib/libconsole.a (rt staticlib console); series_check_segments alone is in
- * target/staticlib/librecords.a (rt staticlib records).
+/* The level line of a month of mail delay, from C: with libdawhikura, static or shared (README, "From C").
  *
- * One duty is on the caller's side: each area is as long as the count beside it says, and an area that is written lies apart from the others.
- * Nothing else need be true of what is handed over. A call that returns a refusal leaves every area as it was; one that does not keeps the entries
- * and bytes past those that it fills. No call allocates or keeps anything for later; sheet_read and sheet_complete need 1 MiB and 16 KiB of stack for
- * the sheet's lists, the others under 16 KiB. Drawing a line takes some 8 ns a minute (README, "Speed"), but is quadratic on some series: a ramp of
- * 65,536 minutes took up to seven seconds. Checking, reading and writing are linear.
+ * One duty is on the caller's side: each area is as long as the count beside it says, and an area that is written lies apart from the others. Any area may
+ * be NULL where its count is 0. Nothing else need be true of what is handed over. A call that returns a refusal leaves every area as it was; one that does
+ * not keeps the entries and bytes past those that it fills.
+ *
+ * No call allocates or keeps anything for later, so calls are reentrant and thread-safe: any number of them may run at once, on the same inputs too, as
+ * long as nothing else uses an area that a call writes, or writes one that it reads, until that call returns.
+ *
+ * Stack: dawhikura_sheet_read and dawhikura_sheet_complete need 1 MiB and 16 KiB for the sheet's lists, however short the sheet; every other call needs
+ * 16 KiB. Drawing a line takes some 8 ns a minute (README, "Speed"), but is quadratic on some series: a ramp of 65,536 minutes took up to seven seconds.
+ * Checking, reading and writing are linear.
  *
  * A result below 0 is a refusal: minus (256 times the place, plus the number), so that for r < 0 the number is -r % 256 and the place -r / 256. A place is
  * at most 65,536, or at most the count of segments handed over; in a list of more than 2^54 segments a place above 2^54 is told as 2^54.
@@ -33,47 +37,49 @@ extern "C" {
 
 /* The line of a series. The first entries of both lists are its segments; the result is their number. The lists need as many entries as there are
  * samples. Refusals 1, 2, 4, 3, 5. */
-int64_t series_line(const int32_t *samples, size_t minutes, uint64_t smoothing, uint32_t *lengths, size_t lengths_len, int64_t *totals, size_t totals_len);
+int64_t dawhikura_series_line(const int32_t *samples, size_t minutes, uint64_t smoothing, uint32_t *lengths, size_t lengths_len, int64_t *totals,
+                              size_t totals_len);
 
 /* The balance after each minute, times the length of the segment that holds it. The first entries of the list are the balances, one a sample; the
  * result is their number. The list needs as many entries as there are samples. Refusals 1, 2, 4, 3, 5. */
-int64_t series_balances(const int32_t *samples, size_t minutes, uint64_t smoothing, int64_t *out, size_t out_len);
+int64_t dawhikura_series_balances(const int32_t *samples, size_t minutes, uint64_t smoothing, int64_t *out, size_t out_len);
 
 /* Whether a line that somebody else drew is the line of the series: 0, or the first refusal of 1, 2, 4, 3, 6, 7, 8, 9. */
-int64_t series_check(const int32_t *samples, size_t minutes, uint64_t smoothing, const uint32_t *lengths, size_t lengths_len, const int64_t *totals, size_t totals_len);
+int64_t dawhikura_series_check(const int32_t *samples, size_t minutes, uint64_t smoothing, const uint32_t *lengths, size_t lengths_len,
+                               const int64_t *totals, size_t totals_len);
 
 /* A segment of a line, as a record. */
 typedef struct { uint32_t length; int64_t total; } dawhikura_segment;
 
-/* The same check, over a run of records. In librecords.a. */
-int64_t series_check_segments(const int32_t *samples, size_t minutes, uint64_t smoothing, const dawhikura_segment *segments, size_t segments_len);
+/* The same check, over a run of records. */
+int64_t dawhikura_series_check_segments(const int32_t *samples, size_t minutes, uint64_t smoothing, const dawhikura_segment *segments, size_t segments_len);
 
 /* The chart of a line of so many minutes: the first minute, the last minute and the plotted level of each segment, in the first entries of the three
  * lists; the result is the number of segments. The lists need as many entries as the line has segments. A plotted level is the nearest double to total
  * over length, ties to even. Refusals 1, 2, 6, 7, 8, then 5. */
-int64_t chart_segments(size_t minutes, const uint32_t *lengths, size_t lengths_len, const int64_t *totals, size_t totals_len, uint32_t *firsts,
-                       size_t firsts_len, uint32_t *lasts, size_t lasts_len, double *levels, size_t levels_len);
+int64_t dawhikura_chart_segments(size_t minutes, const uint32_t *lengths, size_t lengths_len, const int64_t *totals, size_t totals_len, uint32_t *firsts,
+                                 size_t firsts_len, uint32_t *lasts, size_t lasts_len, double *levels, size_t levels_len);
 
 /* The mark of one minute of that chart: 0 for a plain level, 1 for a rise and 2 for a fall, which stand at the last minute of the old level. The first
  * two levels are the plotted ones before and after the step, or the plain one twice; the list needs two entries. Two close levels may plot alike; the
  * kind follows the exact ones. Refusals 1, 2, 6, 7, 8, 13, then 5. */
-int64_t chart_mark(size_t minutes, const uint32_t *lengths, size_t lengths_len, const int64_t *totals, size_t totals_len, size_t minute, double *levels,
-                   size_t levels_len);
+int64_t dawhikura_chart_mark(size_t minutes, const uint32_t *lengths, size_t lengths_len, const int64_t *totals, size_t totals_len, size_t minute,
+                             double *levels, size_t levels_len);
 
 /* Reads a sheet (README, "The sheet"): its samples, the lengths and totals of its line, and in three fields its minutes, its segments and its smoothing.
  * The result is the number of segments, 0 where no line is filed. The first three lists need as many entries as the sheet has minutes, filled or not,
  * the fields 3. Refusals 10, 1, 2, 11, 12, 4, 3, then 6 to 9 where a line is filed, then 5. */
-int64_t sheet_read(const uint8_t *sheet, size_t sheet_len, int32_t *samples, size_t samples_len, uint32_t *lengths, size_t lengths_len, int64_t *totals,
-                   size_t totals_len, uint64_t *fields, size_t fields_len);
+int64_t dawhikura_sheet_read(const uint8_t *sheet, size_t sheet_len, int32_t *samples, size_t samples_len, uint32_t *lengths, size_t lengths_len,
+                             int64_t *totals, size_t totals_len, uint64_t *fields, size_t fields_len);
 
 /* Writes the sheet that holds these lists; two empty line lists mean that no line is filed. The result is the number of bytes written: 32, 4 a sample and
  * 12 a segment. Refusals 1, 2, 4, 3, then 6 to 9 unless both line lists are empty, then 5 for a short output. */
-int64_t sheet_write(const int32_t *samples, size_t minutes, uint64_t smoothing, const uint32_t *lengths, size_t lengths_len, const int64_t *totals,
-                    size_t totals_len, uint8_t *out, size_t out_len);
+int64_t dawhikura_sheet_write(const int32_t *samples, size_t minutes, uint64_t smoothing, const uint32_t *lengths, size_t lengths_len, const int64_t *totals,
+                              size_t totals_len, uint8_t *out, size_t out_len);
 
 /* Completes a sheet: writes the same sheet with its line; one that has its line comes out unchanged. The result is the number of bytes written.
  * Refusals 10, 1, 2, 11, 12, 4, 3, then 6 to 9 where a line is filed, then 5 for a short output. */
-int64_t sheet_complete(const uint8_t *sheet, size_t sheet_len, uint8_t *out, size_t out_len);
+int64_t dawhikura_sheet_complete(const uint8_t *sheet, size_t sheet_len, uint8_t *out, size_t out_len);
 
 #ifdef __cplusplus
 }

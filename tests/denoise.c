@@ -9,7 +9,7 @@
 #include <stdio.h>
 #include <string.h>
 
-#include "../include/dawhikura.h"
+#include <dawhikura.h>
 #include "harness.h"
 #include "random.h"
 
@@ -29,19 +29,19 @@ static void hand_series(const char *call, const int32_t *y, size_t n, uint64_t l
 
 static void compare_line(const int32_t *y, size_t n, uint64_t lambda, const Line *expected)
 {
-    hand_series("series_line", y, n, lambda, expected);
+    hand_series("dawhikura_series_line", y, n, lambda, expected);
     uint32_t *lengths = lend(4 * (n + 3));
     i64 *totals = lend(8 * n);
     expect(0, expected->length, 4 * expected->n);
     expect(1, expected->total, 8 * expected->n);
     lines++;
-    judge((i64)expected->n, series_line(hand(y, 4 * n), n, lambda, lengths, n + 3, totals, n));
+    judge((i64)expected->n, dawhikura_series_line(hand(y, 4 * n), n, lambda, lengths, n + 3, totals, n));
 }
 
 static void compare_balances(const int32_t *y, size_t n, uint64_t lambda, const Line *line)
 {
     static i64 duals[MOST];
-    hand_series("series_balances", y, n, lambda, line);
+    hand_series("dawhikura_series_balances", y, n, lambda, line);
     size_t k = 0;
     i64 u = 0;
     for (size_t s = 0; s < line->n; s++) {
@@ -55,26 +55,27 @@ static void compare_balances(const int32_t *y, size_t n, uint64_t lambda, const 
     i64 *out = lend(8 * (n + 8));
     expect(0, duals, 8 * n);
     balance_runs++;
-    judge((i64)n, series_balances(hand(y, 4 * n), n, lambda, out, n + 8));
+    judge((i64)n, dawhikura_series_balances(hand(y, 4 * n), n, lambda, out, n + 8));
 }
 
 /* the check of two lists and, where they have one length, of the records that hold them */
 static i64 compare_check(const int32_t *y, size_t n, uint64_t lambda, const uint32_t *length, size_t lengths, const i64 *total, size_t totals)
 {
     static dawhikura_segment segments[MOST];
-    handed = (Handed){.call = "series_check", .y = y, .minutes = n, .lambda = lambda, .length = length, .lengths = lengths, .total = total, .totals = totals};
+    handed = (Handed){.call = "dawhikura_series_check", .y = y, .minutes = n, .lambda = lambda, .length = length, .lengths = lengths,
+                      .total = total, .totals = totals};
     i64 expected = paper_check(y, n, lambda, length, lengths, total, totals);
     checks++;
     passed += expected == 0;
-    judge(expected, series_check(hand(y, 4 * n), n, lambda, hand(length, 4 * lengths), lengths, hand(total, 8 * totals), totals));
+    judge(expected, dawhikura_series_check(hand(y, 4 * n), n, lambda, hand(length, 4 * lengths), lengths, hand(total, 8 * totals), totals));
     if (lengths == totals) {
-        handed.call = "series_check_segments";
+        handed.call = "dawhikura_series_check_segments";
         for (size_t s = 0; s < lengths; s++) {
             segments[s].length = length[s];
             segments[s].total = total[s];
         }
         records++;
-        judge(expected, series_check_segments(hand(y, 4 * n), n, lambda, hand(segments, lengths * sizeof segments[0]), lengths));
+        judge(expected, dawhikura_series_check_segments(hand(y, 4 * n), n, lambda, hand(segments, lengths * sizeof segments[0]), lengths));
     }
     return expected;
 }
@@ -249,14 +250,14 @@ static void long_series(void)
 static void refuse(const int32_t *y, size_t n, uint64_t lambda, size_t lengths, size_t totals, i64 expected)
 {
     size_t least = lengths < totals ? lengths : totals;
-    handed = (Handed){.call = "series_line", .y = y, .minutes = n, .lambda = lambda, .room = {lengths, totals}};
+    handed = (Handed){.call = "dawhikura_series_line", .y = y, .minutes = n, .lambda = lambda, .room = {lengths, totals}};
     uint32_t *length = lend(4 * lengths);
     i64 *total = lend(8 * totals);
     lines++;
-    judge(expected, series_line(hand(y, 4 * n), n, lambda, length, lengths, total, totals));
-    handed.call = "series_balances";
+    judge(expected, dawhikura_series_line(hand(y, 4 * n), n, lambda, length, lengths, total, totals));
+    handed.call = "dawhikura_series_balances";
     balance_runs++;
-    judge(expected, series_balances(hand(y, 4 * n), n, lambda, lend(8 * least), least));
+    judge(expected, dawhikura_series_balances(hand(y, 4 * n), n, lambda, lend(8 * least), least));
 }
 
 static void refusals(void)

@@ -1,26 +1,22 @@
 /* Reads and writes sheets and draws charts through the C entries, and compares results, every entry and byte of the lent areas, written or not, and
  * the inputs with another implementation of docs/RULES.md. Known lines; every refusal beside those that come after it; lists exact, too short
- * and longer; 1, 1,440, 1,441 and 65,536 minutes; random and damaged sheets, and lists of any shape; the stack that the header names.
+ * and longer; 1, 1,440, 1,441 and 65,536 minutes; random and damaged sheets, and lists of any shape.
  *
  *     lists [COUNT [GUARD]]      COUNT random sheets (default 40000)
  *
  * Each call gets areas of its own with GUARD bytes (default 64) around them (harness.h). With GUARD 0, for a run under valgrind, fewer sets of refusals
- * are tried and no stack.
+ * are tried.
  *
  * Seeds are fixed. A difference prints the seed and what was handed over. */
-#define _GNU_SOURCE
 #include <stdio.h>
-#include <stdlib.h>
 #include <string.h>
-#include <sys/mman.h>
-#include <ucontext.h>
 
-#include "../include/dawhikura.h"
+#include <dawhikura.h>
 #include "harness.h"
 #include "random.h"
 
-/* a day's minutes; the stack that the header names, for reading and completing sheets and for the other calls */
-enum { DAY = 1440, SHEET_STACK = (1 << 20) + 16384, LIST_STACK = 16384 };
+/* a day's minutes */
+enum { DAY = 1440 };
 
 static uint64_t state;
 static unsigned long reads, writes, segments, marks, completed;
@@ -35,7 +31,7 @@ static i64 compare_read(const uint8_t *sheet, size_t size, const size_t room[4])
 {
     static int32_t y[MOST];
     static Line line;
-    handed = (Handed){.call = "sheet_read", .sheet = sheet, .size = size};
+    handed = (Handed){.call = "dawhikura_sheet_read", .sheet = sheet, .size = size};
     memcpy(handed.room, room, sizeof handed.room);
     int32_t *samples = lend(4 * room[0]);
     uint32_t *lengths = lend(4 * room[1]);
@@ -56,7 +52,7 @@ static i64 compare_read(const uint8_t *sheet, size_t size, const size_t room[4])
         }
     }
     reads++;
-    return judge(want, sheet_read(in, size, samples, room[0], lengths, room[1], totals, room[2], fields, room[3]));
+    return judge(want, dawhikura_sheet_read(in, size, samples, room[0], lengths, room[1], totals, room[2], fields, room[3]));
 }
 
 static void hand_line(const char *call, size_t n, const uint32_t *length, size_t lengths, const i64 *total, size_t totals)
@@ -68,7 +64,7 @@ static i64 compare_write(const int32_t *y, size_t n, uint64_t lambda, const uint
 {
     static Line line;
     static uint8_t sheet[SHEET];
-    hand_line("sheet_write", n, length, lengths, total, totals);
+    hand_line("dawhikura_sheet_write", n, length, lengths, total, totals);
     handed.y = y;
     handed.lambda = lambda;
     handed.room[0] = room;
@@ -86,14 +82,14 @@ static i64 compare_write(const int32_t *y, size_t n, uint64_t lambda, const uint
             expect(0, sheet, (size_t)want);
     }
     writes++;
-    return judge(want, sheet_write(y_in, n, lambda, length_in, lengths, total_in, totals, out, room));
+    return judge(want, dawhikura_sheet_write(y_in, n, lambda, length_in, lengths, total_in, totals, out, room));
 }
 
 static i64 compare_segments(size_t n, const uint32_t *length, size_t lengths, const i64 *total, size_t totals, const size_t room[3])
 {
     static uint32_t first[MOST], last[MOST];
     static double level[MOST];
-    hand_line("chart_segments", n, length, lengths, total, totals);
+    hand_line("dawhikura_chart_segments", n, length, lengths, total, totals);
     memcpy(handed.room, room, 3 * sizeof room[0]);
     uint32_t *firsts = lend(4 * room[0]), *lasts = lend(4 * room[1]);
     double *levels = lend(8 * room[2]);
@@ -115,13 +111,13 @@ static i64 compare_segments(size_t n, const uint32_t *length, size_t lengths, co
         want = (i64)lengths;
     }
     segments++;
-    return judge(want, chart_segments(n, length_in, lengths, total_in, totals, firsts, room[0], lasts, room[1], levels, room[2]));
+    return judge(want, dawhikura_chart_segments(n, length_in, lengths, total_in, totals, firsts, room[0], lasts, room[1], levels, room[2]));
 }
 
 static i64 compare_mark(size_t n, const uint32_t *length, size_t lengths, const i64 *total, size_t totals, size_t minute, size_t room)
 {
     double level[2];
-    hand_line("chart_mark", n, length, lengths, total, totals);
+    hand_line("dawhikura_chart_mark", n, length, lengths, total, totals);
     handed.minute = minute;
     handed.room[0] = room;
     double *levels = lend(8 * room);
@@ -133,7 +129,7 @@ static i64 compare_mark(size_t n, const uint32_t *length, size_t lengths, const 
     if (want >= 0)
         expect(0, level, sizeof level);
     marks++;
-    return judge(want, chart_mark(n, length_in, lengths, total_in, totals, minute, levels, room));
+    return judge(want, dawhikura_chart_mark(n, length_in, lengths, total_in, totals, minute, levels, room));
 }
 
 /* ---- a line's chart, and a series through every call */
@@ -173,21 +169,21 @@ static void everywhere(const int32_t *y, size_t n, uint64_t lambda, const Line *
             must(compare_read(sheet, size, (size_t[]){n - (i == 0), n - (i == 1), n - (i == 2), 3}), refusal(5, 0));
         must(compare_read(sheet, size, (size_t[]){0, 0, 0, 0}), refusal(5, 0));
         /* read, then written: the same bytes */
-        must(sheet_read(sheet, size, samples, n, lengths, n, totals, n, fields, 3), (i64)m);
-        must(sheet_write(samples, fields[0], fields[2], lengths, fields[1], totals, fields[1], other, sizeof other), (i64)size);
+        must(dawhikura_sheet_read(sheet, size, samples, n, lengths, n, totals, n, fields, 3), (i64)m);
+        must(dawhikura_sheet_write(samples, fields[0], fields[2], lengths, fields[1], totals, fields[1], other, sizeof other), (i64)size);
         if (memcmp(other, sheet, size))
             fail("read and written, the sheet differs");
         /* written, then read: the same lists */
-        must(sheet_write(y, n, lambda, line->length, m, line->total, m, other, size), (i64)size);
-        must(sheet_read(other, size, samples, n, lengths, n, totals, n, fields, 3), (i64)m);
+        must(dawhikura_sheet_write(y, n, lambda, line->length, m, line->total, m, other, size), (i64)size);
+        must(dawhikura_sheet_read(other, size, samples, n, lengths, n, totals, n, fields, 3), (i64)m);
         if (fields[0] != n || fields[1] != m || fields[2] != lambda)
             fail("written and read, the fields differ");
         if (memcmp(samples, y, 4 * n) || memcmp(lengths, line->length, 4 * m) || memcmp(totals, line->total, 8 * m))
             fail("written and read, the lists differ");
         /* completed, then read: the line */
         size_t whole = 32 + 4 * n + 12 * line->n;
-        must(sheet_complete(sheet, size, other, whole), (i64)whole);
-        must(sheet_read(other, whole, samples, n, lengths, n, totals, n, fields, 3), (i64)line->n);
+        must(dawhikura_sheet_complete(sheet, size, other, whole), (i64)whole);
+        must(dawhikura_sheet_read(other, whole, samples, n, lengths, n, totals, n, fields, 3), (i64)line->n);
         if (memcmp(samples, y, 4 * n) || memcmp(lengths, line->length, 4 * line->n) || memcmp(totals, line->total, 8 * line->n))
             fail("completed and read, the lists differ");
         completed++;
@@ -205,17 +201,17 @@ static void known(void)
     }
     /* the -1.5 of RULES 2.6; a total of 0 is plus zero; a fall, a rise, and a plain level before and after it */
     double v[2], zero = 0;
-    must(chart_mark(2, (uint32_t[]){2}, 1, (i64[]){-3}, 1, 1, v, 2), 0);
+    must(dawhikura_chart_mark(2, (uint32_t[]){2}, 1, (i64[]){-3}, 1, 1, v, 2), 0);
     must(v[0] == -1.5 && v[1] == -1.5, 1);
-    must(chart_mark(2, (uint32_t[]){2}, 1, (i64[]){0}, 1, 2, v, 2), 0);
+    must(dawhikura_chart_mark(2, (uint32_t[]){2}, 1, (i64[]){0}, 1, 2, v, 2), 0);
     must(memcmp(v, &zero, 8) || memcmp(v + 1, &zero, 8), 0);
-    must(chart_mark(2, (uint32_t[]){1, 1}, 2, (i64[]){9, 1}, 2, 1, v, 2), 2);
+    must(dawhikura_chart_mark(2, (uint32_t[]){1, 1}, 2, (i64[]){9, 1}, 2, 1, v, 2), 2);
     must(v[0] == 9 && v[1] == 1, 1);
-    must(chart_mark(4, (uint32_t[]){2, 2}, 2, (i64[]){1, 17}, 2, 2, v, 2), 1);
+    must(dawhikura_chart_mark(4, (uint32_t[]){2, 2}, 2, (i64[]){1, 17}, 2, 2, v, 2), 1);
     must(v[0] == 0.5 && v[1] == 8.5, 1);
-    must(chart_mark(4, (uint32_t[]){2, 2}, 2, (i64[]){1, 17}, 2, 1, v, 2), 0);
+    must(dawhikura_chart_mark(4, (uint32_t[]){2, 2}, 2, (i64[]){1, 17}, 2, 1, v, 2), 0);
     must(v[0] == 0.5 && v[1] == 0.5, 1);
-    must(chart_mark(4, (uint32_t[]){2, 2}, 2, (i64[]){1, 17}, 2, 4, v, 2), 0);
+    must(dawhikura_chart_mark(4, (uint32_t[]){2, 2}, 2, (i64[]){1, 17}, 2, 4, v, 2), 0);
     must(v[0] == 8.5 && v[1] == 8.5, 1);
 }
 
@@ -229,7 +225,7 @@ static void close_levels(void)
         i64 rising[] = {16383 + 32767 * k, 16384 + 32769 * k}, falling[] = {rising[1], rising[0]};
         must(compare_mark(MOST, up, 2, rising, 2, 32767, 2), 1);
         must(compare_mark(MOST, down, 2, falling, 2, 32769, 2), 2);
-        must(chart_mark(MOST, up, 2, rising, 2, 32767, v, 2), 1);
+        must(dawhikura_chart_mark(MOST, up, 2, rising, 2, 32767, v, 2), 1);
         alike += v[0] == v[1];
     }
     must(alike > 0, 1);
@@ -443,88 +439,13 @@ static void random_sheets(void)
     if (paper_read(sheet, size, y, &line) == 0) {
         uint64_t lambda = get(sheet + 16, 8);
         must(compare_write(y, n, lambda, line.length, line.n, line.total, line.n, size + next() % 3), (i64)size);
-        must(sheet_write(y, n, lambda, line.length, line.n, line.total, line.n, other, size), (i64)size);
+        must(dawhikura_sheet_write(y, n, lambda, line.length, line.n, line.total, line.n, other, size), (i64)size);
         if (memcmp(other, sheet, size))
             fail("read and written, the sheet differs");
         if (line.n > 0)
             chart(n, &line, 1);
     }
     random_lists();
-}
-
-/* ---- the stack that the header names */
-/* with nothing below it for as far as a call may reach */
-static void on_stack(size_t bytes, void (*calls)(void))
-{
-    enum { BELOW = 4 << 20 };
-    static ucontext_t here, there;
-    uint8_t *p = mmap(NULL, BELOW + bytes, PROT_READ | PROT_WRITE, MAP_PRIVATE | MAP_ANONYMOUS, -1, 0);
-    if (p == MAP_FAILED || mprotect(p, BELOW, PROT_NONE) || getcontext(&there)) {
-        printf("no stack to test with\n");
-        exit(1);
-    }
-    there.uc_stack.ss_sp = p + BELOW;
-    there.uc_stack.ss_size = bytes;
-    there.uc_link = &here;
-    makecontext(&there, calls, 0);
-    swapcontext(&here, &there);
-    munmap(p, BELOW + bytes);
-}
-
-static int32_t stack_y[MOST], stack_samples[MOST];
-static Line stack_line;
-static dawhikura_segment stack_records[MOST];
-static i64 stack_totals[MOST], answers[7];
-static uint32_t stack_lengths[MOST], stack_lasts[MOST];
-static double stack_levels[MOST];
-
-static void list_calls(void)
-{
-    size_t m = stack_line.n;
-    answers[0] = series_line(stack_y, MOST, 50, stack_lengths, MOST, stack_totals, MOST);
-    answers[1] = series_balances(stack_y, MOST, 50, stack_totals, MOST);
-    answers[2] = series_check(stack_y, MOST, 50, stack_line.length, m, stack_line.total, m);
-    answers[3] = series_check_segments(stack_y, MOST, 50, stack_records, m);
-    answers[4] = chart_segments(MOST, stack_line.length, m, stack_line.total, m, stack_lengths, MOST, stack_lasts, MOST, stack_levels, MOST);
-    answers[5] = chart_mark(MOST, stack_line.length, m, stack_line.total, m, MOST, stack_levels, 2);
-    answers[6] = sheet_write(stack_y, MOST, 50, stack_line.length, m, stack_line.total, m, sheet, SHEET);
-}
-
-/* the sheet with its line read, with too few fields too, and completed; then completed without its line */
-static void sheet_calls(void)
-{
-    uint64_t fields[3];
-    size_t n = get(sheet, 4), m = get(sheet + 4, 4), size = get(sheet + 24, 4);
-    answers[0] = sheet_read(sheet, size, stack_samples, n, stack_lengths, n, stack_totals, n, fields, 3);
-    answers[1] = sheet_read(sheet, size, stack_samples, n, stack_lengths, n, stack_totals, n, fields, 2);
-    answers[2] = sheet_complete(sheet, size, other, SHEET);
-    put(sheet + 4, 4, 0);
-    put(sheet + 24, 4, 32 + 4 * n);
-    answers[3] = sheet_complete(sheet, 32 + 4 * n, other, SHEET);
-    put(sheet + 4, 4, m);
-    put(sheet + 24, 4, size);
-}
-
-static void answered(const i64 *want, int count)
-{
-    for (int i = 0; i < count; i++)
-        must(answers[i], want[i]);
-}
-
-static void stacks(void)
-{
-    for (size_t i = 0; i < MOST; i++)
-        stack_y[i] = random_sample(&state, 1);
-    paper_line_long(stack_y, MOST, 50, &stack_line);
-    i64 m = (i64)stack_line.n, size = (i64)paper_sheet(sheet, stack_y, MOST, 50, &stack_line);
-    on_stack(SHEET_STACK, sheet_calls);
-    answered((i64[]){m, refusal(5, 0), size, size}, 4);
-    for (size_t s = 0; s < stack_line.n; s++) {
-        stack_records[s].length = stack_line.length[s];
-        stack_records[s].total = stack_line.total[s];
-    }
-    on_stack(LIST_STACK, list_calls);
-    answered((i64[]){m, MOST, 0, 0, m, 0, size}, 7);
 }
 
 int main(int argc, char **argv)
@@ -542,8 +463,6 @@ int main(int argc, char **argv)
     }
     seed = state = 12345;
     long_series();
-    if (guard)
-        stacks();
     printf("reads %lu writes %lu charts %lu marks %lu completed %lu", reads, writes, segments, marks, completed);
     print_agreed();
     return 0;

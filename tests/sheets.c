@@ -9,7 +9,7 @@
 #include <stdio.h>
 #include <string.h>
 
-#include "../include/dawhikura.h"
+#include <dawhikura.h>
 #include "harness.h"
 #include "random.h"
 
@@ -31,14 +31,14 @@ static uint64_t next(void)
 
 static void compare(const uint8_t *s, size_t size, size_t room)
 {
-    handed = (Handed){.call = "sheet_complete", .sheet = s, .size = size, .room = {room}};
+    handed = (Handed){.call = "dawhikura_sheet_complete", .sheet = s, .size = size, .room = {room}};
     uint8_t *out = lend(room);
     const uint8_t *in = hand(s, size);
     i64 want = paper_complete(s, size, expected, room);
     if (want > 0)
         expect(0, expected, (size_t)want);
     calls++;
-    completed += judge(want, sheet_complete(in, size, out, room)) > 0;
+    completed += judge(want, dawhikura_sheet_complete(in, size, out, room)) > 0;
 }
 
 /* with the output longer than it need be, exact, one byte short and shorter */

@@ -54,7 +54,7 @@ pub fn verdict(c: Checked) -> i64
 }
 
 #[no_mangle]
-pub extern "C" fn series_line(
+pub extern "C" fn dawhikura_series_line(
     samples: &[i32],
     smoothing: u64,
     lengths: &mut [u32],
@@ -71,7 +71,7 @@ pub extern "C" fn series_line(
 }
 
 #[no_mangle]
-pub extern "C" fn series_balances(samples: &[i32], smoothing: u64, out: &mut [i64]) -> i64
+pub extern "C" fn dawhikura_series_balances(samples: &[i32], smoothing: u64, out: &mut [i64]) -> i64
     ensures answer { λ r. ⌜ r ≡ code-of-all (length (now (samples .entry))) (balancesOf (now (samples .entry)) smoothing (now (out .entry))) ⌝ }
     ensures out { λ r. ⌜ now (out .exit) ≡ balancesAfter (now (samples .entry)) smoothing (now (out .entry)) ⌝ }
 {
@@ -82,7 +82,7 @@ pub extern "C" fn series_balances(samples: &[i32], smoothing: u64, out: &mut [i6
 }
 
 #[no_mangle]
-pub extern "C" fn series_check(
+pub extern "C" fn dawhikura_series_check(
     samples: &[i32],
     smoothing: u64,
     lengths: &[u32],
@@ -96,7 +96,7 @@ pub extern "C" fn series_check(
 }
 
 #[no_mangle]
-pub extern "C" fn chart_segments(
+pub extern "C" fn dawhikura_chart_segments(
     minutes: usize,
     lengths: &[u32],
     totals: &[i64],
@@ -122,7 +122,7 @@ pub extern "C" fn chart_segments(
 }
 
 #[no_mangle]
-pub extern "C" fn chart_mark(
+pub extern "C" fn dawhikura_chart_mark(
     minutes: usize,
     lengths: &[u32],
     totals: &[i64],
@@ -156,7 +156,7 @@ fn show(kind: u32, from: f64, to: f64, levels: &mut [f64]) -> i64
 }
 
 #[no_mangle]
-pub extern "C" fn sheet_read(
+pub extern "C" fn dawhikura_sheet_read(
     sheet: &[u8],
     samples: &mut [i32],
     lengths: &mut [u32],
@@ -209,7 +209,7 @@ fn tell(f: Fields, out: &mut [u64]) -> i64
 }
 
 #[no_mangle]
-pub extern "C" fn sheet_write(
+pub extern "C" fn dawhikura_sheet_write(
     samples: &[i32],
     smoothing: u64,
     lengths: &[u32],
@@ -228,7 +228,7 @@ pub extern "C" fn sheet_write(
 }
 
 #[no_mangle]
-pub extern "C" fn sheet_complete(sheet: &[u8], out: &mut [u8]) -> i64
+pub extern "C" fn dawhikura_sheet_complete(sheet: &[u8], out: &mut [u8]) -> i64
     ensures answer { λ r. ⌜ r ≡ code (completeOf (now (sheet .entry)) (now (out .entry))) ⌝ }
     ensures out { λ r. ⌜ now (out .exit) ≡ completedAfter (now (sheet .entry)) (now (out .entry)) ⌝ }
 {

@@ -1,5 +1,6 @@
-// The check of a run of segment records, for C. It has an archive of its own: where one archive has both checks, the compiler lets them share their step and
-// hands it the walk in memory, and series_check took twice as long on an hour or a day and a sixth longer on a month.
+// The check of a run of segment records, for C. It is compiled by itself, to an object of its own in the library: where one object has both checks, the
+// compiler lets them share their step and hands it the walk in memory, and dawhikura_series_check took twice as long on an hour or a day and a sixth longer
+// on a month.
 
 ghost use mathlib.Core.Path.{_≡_};
 ghost use Prim.Native.Nat.{_≤_};
@@ -10,7 +11,7 @@ ghost use Rattle.console.specs.Code.{code-of-none, farthest, told};
 use checker::Segment;
 
 #[no_mangle]
-pub extern "C" fn series_check_segments(
+pub extern "C" fn dawhikura_series_check_segments(
     samples: &[i32],
     smoothing: u64,
     segments: &[Segment],

@@ -1,4 +1,4 @@
--- `console::chart_mark` meets its contract.
+-- `console::dawhikura_chart_mark` meets its contract.
 use borrow.Author.Needs.{needs}
 use mathlib.Core.Path.{_≡_, refl, sym, ap, _∙_}
 use mathlib.Core.List.{List}
@@ -16,8 +16,8 @@ use Rattle.chart.proofs.PlaceLaws.{mark-placed}
 use Rattle.console.specs.Code.{code, farthest, told}
 use Rattle.console.specs.Mark.{kindOf, levelsAfter}
 use Rattle.console.proofs.Told.{plainly}
-use Rattle.console.proofs.chart_mark.Statement.{statement}
-use Rattle.console.proofs.chart_mark.Tie as tie
+use Rattle.console.proofs.dawhikura_chart_mark.Statement.{statement}
+use Rattle.console.proofs.dawhikura_chart_mark.Tie as tie
 
 abbrev start : tie.After-mark-of → tie.Start
 start g = g .before .before .before
@@ -69,8 +69,8 @@ returns-4 c =
     let r : SFits w64 (c .far-refusal .result) = record { sfits = c .far-refusal .ok } in
     says (n .before .before) (n .number .given .1) (toZ-ofZ r ∙ c .far-refusal .ensures) refl
 
-pub chart-mark-spec : {M : Type 1} → statement M
-chart-mark-spec =
+pub dawhikura-chart-mark-spec : {M : Type 1} → statement M
+dawhikura-chart-mark-spec =
     tie.close
     (tie.spec
     (λ c κs. search needs)

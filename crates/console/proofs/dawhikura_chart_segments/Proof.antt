@@ -1,4 +1,4 @@
--- `console::chart_segments` meets its contract.
+-- `console::dawhikura_chart_segments` meets its contract.
 use borrow.Author.Needs.{needs}
 use mathlib.Core.Path.{_≡_, sym, ap, _∙_}
 use Prim.Native.Nat.{_≤_}
@@ -14,8 +14,8 @@ use Rattle.chart.specs.Whole.{segmentsOf}
 use Rattle.chart.proofs.PlaceLaws.{segments-placed}
 use Rattle.console.specs.Code.{code-of-all, farthest, told}
 use Rattle.console.proofs.Told.{plainly}
-use Rattle.console.proofs.chart_segments.Statement.{statement}
-use Rattle.console.proofs.chart_segments.Tie as tie
+use Rattle.console.proofs.dawhikura_chart_segments.Statement.{statement}
+use Rattle.console.proofs.dawhikura_chart_segments.Tie as tie
 
 module _ (g : tie.After-segments) where
   abbrev a : tie.Start
@@ -49,8 +49,8 @@ returns-2 c =
     let r = toZ-ofZ s ∙ c .far-refusal .ensures ∙ ap (λ k. code-of-all m (told k)) (sym (ap filled (n .number .given .1)) ∙ promised g) in
     (r, (plain g r, g .segments .ensures .1))
 
-pub chart-segments-spec : {M : Type 1} → statement M
-chart-segments-spec =
+pub dawhikura-chart-segments-spec : {M : Type 1} → statement M
+dawhikura-chart-segments-spec =
     tie.close
     (tie.spec
     (λ c κs. search needs)

@@ -1,4 +1,4 @@
--- `console::series_balances` meets its contract.
+-- `console::dawhikura_series_balances` meets its contract.
 use borrow.Author.Needs.{needs}
 use mathlib.Core.Path.{_≡_, sym, ap, _∙_}
 use Prim.Native.Nat.{ℕ, _≤_}
@@ -13,8 +13,8 @@ use Rattle.denoise.specs.Dual.{balancesOf, balancesAfter}
 use Rattle.series.proofs.PlaceLaws.{place-most}
 use Rattle.denoise.proofs.PlaceLaws.{balances-placed}
 use Rattle.console.specs.Code.{code-of-all}
-use Rattle.console.proofs.series_balances.Statement.{statement}
-use Rattle.console.proofs.series_balances.Tie as tie
+use Rattle.console.proofs.dawhikura_series_balances.Statement.{statement}
+use Rattle.console.proofs.dawhikura_series_balances.Tie as tie
 
 module _ (g : tie.After-balances) where
   abbrev a : tie.Start
@@ -47,8 +47,8 @@ returns-2 c =
     let m = length (a g .args .samples .now) in
     (toZ-ofZ r ∙ c .refusal .ensures ∙ ap (code-of-all m) (sym (ap filled (n .number .given .1)) ∙ promised g), list g)
 
-pub series-balances-spec : {M : Type 1} → statement M
-series-balances-spec =
+pub dawhikura-series-balances-spec : {M : Type 1} → statement M
+dawhikura-series-balances-spec =
     tie.close
     (tie.spec
     (λ c κs. search needs)

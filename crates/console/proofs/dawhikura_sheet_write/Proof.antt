@@ -1,4 +1,4 @@
--- `console::sheet_write` meets its contract: no sheet has as many bytes as would wrap.
+-- `console::dawhikura_sheet_write` meets its contract: no sheet has as many bytes as would wrap.
 use borrow.Author.Needs.{needs}
 use mathlib.Core.Path.{_≡_, sym, ap, _∙_}
 use mathlib.Core.List.{List}
@@ -19,8 +19,8 @@ use Rattle.sheet.proofs.SheetOf.{has-room}
 use Rattle.sheet.proofs.PlaceLaws.{write-placed}
 use Rattle.console.specs.Code.{code, farthest, told}
 use Rattle.console.proofs.Told.{plainly}
-use Rattle.console.proofs.sheet_write.Statement.{statement}
-use Rattle.console.proofs.sheet_write.Tie as tie
+use Rattle.console.proofs.dawhikura_sheet_write.Statement.{statement}
+use Rattle.console.proofs.dawhikura_sheet_write.Tie as tie
 
 bytes-few : (ys : List ℤ) (L : ℕ) (ns : List ℕ) (ts : List ℤ) (out : List ℕ) (b : ℕ) → writeOf ys L ns ts out ≡ given b → b ≤ 1048608
 bytes-few ys L ns ts out b e =
@@ -71,8 +71,8 @@ returns-2 c =
     let r = toZ-ofZ s ∙ c .far-refusal .ensures ∙ ap (λ k. code (told k)) (sym (ap written (n .number .given .1)) ∙ promised g) in
     (r, (plain g r, bytes g))
 
-pub sheet-write-spec : {M : Type 1} → statement M
-sheet-write-spec =
+pub dawhikura-sheet-write-spec : {M : Type 1} → statement M
+dawhikura-sheet-write-spec =
     tie.close
     (tie.spec
     (λ c κs. search needs)

@@ -1,4 +1,4 @@
--- What `series_check_segments` calls: the contracts, what each asks and what it says.
+-- What `dawhikura_series_check_segments` calls: the contracts, what each asks and what it says.
 use mathlib.Core.Path.{_≡_}
 use mathlib.Core.List.{List, [], _∷_}
 use Prim.Native.Nat.{ℕ}

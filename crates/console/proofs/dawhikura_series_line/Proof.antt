@@ -1,4 +1,4 @@
--- `console::series_line` meets its contract.
+-- `console::dawhikura_series_line` meets its contract.
 use borrow.Author.Needs.{needs}
 use mathlib.Core.Path.{_≡_, sym, ap, _∙_}
 use Prim.Native.Nat.{ℕ, _≤_}
@@ -11,8 +11,8 @@ use Rattle.denoise.specs.Line.{drawn, lineOf, lengthsOf, totalsOf}
 use Rattle.series.proofs.PlaceLaws.{place-most}
 use Rattle.denoise.proofs.PlaceLaws.{line-placed}
 use Rattle.console.specs.Code.{code}
-use Rattle.console.proofs.series_line.Statement.{statement}
-use Rattle.console.proofs.series_line.Tie as tie
+use Rattle.console.proofs.dawhikura_series_line.Statement.{statement}
+use Rattle.console.proofs.dawhikura_series_line.Tie as tie
 
 module _ (g : tie.After-line) where
   abbrev a : tie.Start
@@ -45,8 +45,8 @@ returns-2 c =
     let g = n .before .before .before .before .before in
     (toZ-ofZ r ∙ c .refusal .ensures ∙ ap code (sym (ap drawn (n .number .given .1)) ∙ promised g), lists g)
 
-pub series-line-spec : {M : Type 1} → statement M
-series-line-spec =
+pub dawhikura-series-line-spec : {M : Type 1} → statement M
+dawhikura-series-line-spec =
     tie.close
     (tie.spec
     (λ c κs. search needs)

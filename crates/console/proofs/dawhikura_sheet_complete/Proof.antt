@@ -1,4 +1,4 @@
--- `console::sheet_complete` meets its contract: no sheet has as many bytes as would wrap.
+-- `console::dawhikura_sheet_complete` meets its contract: no sheet has as many bytes as would wrap.
 use borrow.Author.Needs.{needs}
 use mathlib.Core.Path.{_≡_, sym, ap, _∙_}
 use Prim.Native.Nat.{ℕ, _≤_}
@@ -13,8 +13,8 @@ use Rattle.sheet.specs.Complete.{completeOf, completedAfter}
 use Rattle.sheet.proofs.CompleteLaws.{bytes-few}
 use Rattle.sheet.proofs.PlaceLaws.{complete-placed}
 use Rattle.console.specs.Code.{code}
-use Rattle.console.proofs.sheet_complete.Statement.{statement}
-use Rattle.console.proofs.sheet_complete.Tie as tie
+use Rattle.console.proofs.dawhikura_sheet_complete.Statement.{statement}
+use Rattle.console.proofs.dawhikura_sheet_complete.Tie as tie
 
 module _ (g : tie.After-complete) where
   abbrev a : tie.Start
@@ -53,8 +53,8 @@ returns-2 c =
     let g = n .before .before .before .before in
     (toZ-ofZ r ∙ c .refusal .ensures ∙ ap code (sym (ap written (n .number .given .1)) ∙ promised g), bytes g)
 
-pub sheet-complete-spec : {M : Type 1} → statement M
-sheet-complete-spec =
+pub dawhikura-sheet-complete-spec : {M : Type 1} → statement M
+dawhikura-sheet-complete-spec =
     tie.close
     (tie.spec
     (λ c κs. search needs)

@@ -1,4 +1,4 @@
--- `console::sheet_read` meets its contract.
+-- `console::dawhikura_sheet_read` meets its contract.
 use borrow.Author.Needs.{needs}
 use mathlib.Core.Path.{_≡_, sym, ap, _∙_}
 use mathlib.Core.List.{List}
@@ -19,8 +19,8 @@ use Rattle.sheet.proofs.PlaceLaws.{read-placed}
 use Rattle.console.specs.Code.{code}
 use Rattle.console.specs.Reading.{three, readingOf, samplesRead, lengthsRead, totalsRead}
 use Rattle.console.proofs.Rooms.{few-fields, few-kept, read-refused, read-given, read-lists}
-use Rattle.console.proofs.sheet_read.Statement.{statement}
-use Rattle.console.proofs.sheet_read.Tie as tie
+use Rattle.console.proofs.dawhikura_sheet_read.Statement.{statement}
+use Rattle.console.proofs.dawhikura_sheet_read.Tie as tie
 
 -- what is handed in, and the answer
 module _ (a : tie.Start) where
@@ -116,8 +116,8 @@ returns-3 c =
     let t = refused-too g (ap headed (n .number .given .1)) in
     (toZ-ofZ r ∙ c .refusal .ensures ∙ ap code (sym t), (samples-are g, (lengths-are g, (totals-are g, rw t))))
 
-pub sheet-read-spec : {M : Type 1} → statement M
-sheet-read-spec =
+pub dawhikura-sheet-read-spec : {M : Type 1} → statement M
+dawhikura-sheet-read-spec =
     tie.close
     (tie.spec
     (λ c κs. search needs)

@@ -1,5 +1,5 @@
--- `records::series_check_segments` meets its contract: a walk of its MIR, by hand. It hands its lent run of segments to `checker::check_segments`, and what
--- that answers to `verdict`.
+-- `records::dawhikura_series_check_segments` meets its contract: a walk of its MIR, by hand. It hands its lent run of segments to `checker::check_segments`, and
+-- what that answers to `verdict`.
 mod Callees
 mod Exit
 mod Locals
@@ -51,14 +51,14 @@ use Rattle.console.proofs.verdict as verdict
 use Rattle.console.proofs.verdict.Symbol as verdict-def
 use Rattle.console.proofs.verdict.Symbol.{name as #verdict}
 use Rattle.console.proofs.verdict.Met as verdict-thm
-use Rattle.records.proofs.series_check_segments.Proof.Callees.{Args, slice, vals, verdict-vals, answer, Check, Verdict, Known, said-check, said-verdict, asked-check, asked-verdict}
-use Rattle.records.proofs.series_check_segments.Proof.Exit.{stayed, OwnY, OwnS, Tokens, Post, exits}
-use Rattle.records.proofs.series_check_segments.Proof.Locals.{checkedTy, word, samplesTy, segmentsTy, typed-checked, typed-result}
-use Rattle.records.proofs.series_check_segments.Key.{name as #series-check-segments}
-use Rattle.records.proofs.series_check_segments as f
-use Rattle.records.proofs.series_check_segments.Statement as stated
-use Rattle.records.proofs.series_check_segments.Code as code
-use Rattle.records.proofs.series_check_segments.Code.Mir as body
+use Rattle.records.proofs.dawhikura_series_check_segments.Proof.Callees.{Args, slice, vals, verdict-vals, answer, Check, Verdict, Known, said-check, said-verdict, asked-check, asked-verdict}
+use Rattle.records.proofs.dawhikura_series_check_segments.Proof.Exit.{stayed, OwnY, OwnS, Tokens, Post, exits}
+use Rattle.records.proofs.dawhikura_series_check_segments.Proof.Locals.{checkedTy, word, samplesTy, segmentsTy, typed-checked, typed-result}
+use Rattle.records.proofs.dawhikura_series_check_segments.Key.{name as #dawhikura-series-check-segments}
+use Rattle.records.proofs.dawhikura_series_check_segments as f
+use Rattle.records.proofs.dawhikura_series_check_segments.Statement as stated
+use Rattle.records.proofs.dawhikura_series_check_segments.Code as code
+use Rattle.records.proofs.dawhikura_series_check_segments.Code.Mir as body
 
 module _ {M : Type 1} (𝓤 : URA M) (H : Heap 𝓤) (A : Atoms 𝓤) (W : Given 𝓤 H A) (mem : Memory → SProp 𝓤) (run : Routine → Fun 𝓤)
     (κ κ′ : Lft) (q q′ : Share) (x : Args) (L-fits : x .1 .0 < 2 ^ 64) where
@@ -157,11 +157,11 @@ module _ {M : Type 1} (𝓤 : URA M) (H : Heap 𝓤) (A : Atoms 𝓤) (W : Given
   meets : Meets 𝓤 H A f.signature (WpFn 𝓤 H (𝓣 .C) (𝓣 .Λ) code.function) (f.spec 𝓤 H A mem run)
   meets = walk-meets 𝓤 H A f.ended stayed W (goes-none-slice 𝓤 H A W 2 (0 ∷ []) tt (plain (λ _. i32)) yes, (goes-none 𝓤 H A W 2 (λ _. u64) yes (λ κs x f. refl), (goes-none-slice 𝓤 H A W 2 (1 ∷ []) tt (plain (λ _. T.the-row)) yes, tt))) (f.clauses 𝓤 H A mem run) (WpFn 𝓤 H (𝓣 .C) (𝓣 .Λ) code.function) (WpFn-mono 𝓤 H (W .laws) 𝓣 code.function) walks
 
-pub series-check-segments-spec : {M : Type 1} → stated.statement M
+pub dawhikura-series-check-segments-spec : {M : Type 1} → stated.statement M
 unfolding code.routine tablesOf
-series-check-segments-spec 𝓤 H 𝓜 𝓖 𝓡 =
+dawhikura-series-check-segments-spec 𝓤 H 𝓜 𝓖 𝓡 =
     entered 𝓤 H (tripleOf 𝓤 H (𝓖 .A) f.signature (f.spec 𝓤 H (𝓖 .A) (𝓜 .mem) (𝓡 .run)))
-    (tables 𝓤 H 𝓜 𝓡 code.env .C) (tables 𝓤 H 𝓜 𝓡 code.env .Λ) #series-check-segments code.function (code.unfolded 𝓤 H 𝓜 𝓡)
+    (tables 𝓤 H 𝓜 𝓡 code.env .C) (tables 𝓤 H 𝓜 𝓡 code.env .Λ) #dawhikura-series-check-segments code.function (code.unfolded 𝓤 H 𝓜 𝓡)
     (meets 𝓤 H (𝓖 .A) (givenOf 𝓤 H 𝓜 𝓖) (𝓜 .mem) (𝓡 .run) (tablesOf 𝓤 H 𝓜 (tables 𝓤 H 𝓜 𝓡 code.env)) (record {
       check = cited 𝓤 H (Check 𝓤 H (𝓖 .A) (𝓜 .mem) (𝓡 .run)) 𝓜 𝓡 code.env #check check-def.routine code.calls-checker·check-segments (check-thm.met 𝓤 H 𝓜 𝓖 𝓡);
       verdict = cited 𝓤 H (Verdict 𝓤 H (𝓖 .A) (𝓜 .mem) (𝓡 .run)) 𝓜 𝓡 code.env #verdict verdict-def.routine code.calls-console·verdict (verdict-thm.met 𝓤 H 𝓜 𝓖 𝓡);

@@ -1,4 +1,4 @@
--- How the walk of `series_check_segments` ends: with the tokens, what the slices own, and a result of which both clauses hold.
+-- How the walk of `dawhikura_series_check_segments` ends: with the tokens, what the slices own, and a result of which both clauses hold.
 use mathlib.Core.Path.{_≡_, refl}
 use mathlib.Core.List.{List, [], _∷_}
 use native.Mathlib.Omega.{arith}
@@ -29,8 +29,8 @@ use Rattle.checker.proofs.PlaceLaws.{check-placed}
 use Rattle.checker.proofs.Segment as T
 use Rattle.console.specs.Code.{code-of-none, farthest, told}
 use Rattle.console.proofs.Told.{plainly}
-use Rattle.records.proofs.series_check_segments as f
-use Rattle.records.proofs.series_check_segments.Proof.Callees.{Args, slice, vals, answer}
+use Rattle.records.proofs.dawhikura_series_check_segments as f
+use Rattle.records.proofs.dawhikura_series_check_segments.Proof.Callees.{Args, slice, vals, answer}
 
 -- ---- two facts, for an `ensures` of two clauses
 module _ {M : Type 1} (𝓤 : URA M) where

@@ -1,4 +1,4 @@
--- `console::series_check` meets its contract.
+-- `console::dawhikura_series_check` meets its contract.
 use borrow.Author.Needs.{needs}
 use mathlib.Core.Path.{_≡_, ap, _∙_}
 use native.Mathlib.Omega.{arith}
@@ -10,8 +10,8 @@ use Rattle.checker.specs.Check.{checkOf}
 use Rattle.checker.proofs.PlaceLaws.{check-placed}
 use Rattle.console.specs.Code.{code-of-none, told}
 use Rattle.console.proofs.Told.{plainly}
-use Rattle.console.proofs.series_check.Statement.{statement}
-use Rattle.console.proofs.series_check.Tie as tie
+use Rattle.console.proofs.dawhikura_series_check.Statement.{statement}
+use Rattle.console.proofs.dawhikura_series_check.Tie as tie
 
 -- what the callee promised
 promised : (g : tie.After-check) → let a = g .before .before .args in
@@ -25,5 +25,5 @@ returns c =
     let e = toZ-ofZ r ∙ c .verdict .ensures ∙ ap (λ k. code-of-none (told k)) (promised (c .before)) in
     (e, plainly code-of-none (check-placed (a .samples .now) (a .smoothing) (a .lengths .now) (a .totals .now) (omega arith)) e)
 
-pub series-check-spec : {M : Type 1} → statement M
-series-check-spec = tie.close (tie.spec (λ c κs. search needs) (λ c κs. search needs) returns)
+pub dawhikura-series-check-spec : {M : Type 1} → statement M
+dawhikura-series-check-spec = tie.close (tie.spec (λ c κs. search needs) (λ c κs. search needs) returns)

@@ -1,4 +1,4 @@
--- The locals of `series_check_segments`: their types, as the MIR has them, and what fits into them.
+-- The locals of `dawhikura_series_check_segments`: their types, as the MIR has them, and what fits into them.
 use mathlib.Core.List.{[], _∷_}
 use lib.Dec.{T as Holds}
 use lib.IntN.{ℤ}
@@ -19,7 +19,7 @@ use Rattle.series.specs.declared.Checked.{Checked}
 use Rattle.series.proofs.Checked as K
 use Rattle.series.proofs.Checked.Laws as K′
 use Rattle.checker.proofs.Segment as T
-use Rattle.records.proofs.series_check_segments.Code.Mir as body
+use Rattle.records.proofs.dawhikura_series_check_segments.Code.Mir as body
 
 abbrev pub checkedTy : Ty
 checkedTy = spell body.table (tyNamed (K.enum .name, []))

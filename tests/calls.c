@@ -1,0 +1,247 @@
+/* What the header says of every call, beside what the call does: an area of no entries may be NULL, so much stack is enough, and several threads may call
+ * at once. Prints one line, or the first call of which that is not so.
+ *
+ *     calls */
+#define _GNU_SOURCE
+#include <pthread.h>
+#include <stdio.h>
+#include <stdlib.h>
+#include <string.h>
+#include <sys/mman.h>
+#include <ucontext.h>
+
+#include <dawhikura.h>
+#include "harness.h"
+#include "random.h"
+
+/* the stack that the header names, for reading and completing sheets and for the other calls */
+enum { SHEET_STACK = (1 << 20) + 16384, LIST_STACK = 16384 };
+
+static void answers(const char *call, i64 got, i64 want)
+{
+    handed = (Handed){.call = call};
+    must(got, want);
+}
+
+/* ---- what a run hands over, and what it fills */
+static int32_t y[MOST];
+static Line line;
+static dawhikura_segment records[MOST];
+static uint8_t whole[SHEET], bare[SHEET];
+static size_t whole_size, bare_size;
+
+typedef struct {
+    i64 results[11];
+    uint32_t lengths[MOST], firsts[MOST], lasts[MOST], lengths_read[MOST];
+    i64 totals[MOST], balances[MOST], totals_read[MOST];
+    double levels[MOST], mark[2];
+    int32_t samples_read[MOST];
+    uint64_t fields[3], few[2];
+    uint8_t written[SHEET], completed[SHEET], confirmed[SHEET];
+} Run;
+
+static void list_calls(Run *r)
+{
+    size_t m = line.n;
+    r->results[0] = dawhikura_series_line(y, MOST, 50, r->lengths, MOST, r->totals, MOST);
+    r->results[1] = dawhikura_series_balances(y, MOST, 50, r->balances, MOST);
+    r->results[2] = dawhikura_series_check(y, MOST, 50, line.length, m, line.total, m);
+    r->results[3] = dawhikura_series_check_segments(y, MOST, 50, records, m);
+    r->results[4] = dawhikura_chart_segments(MOST, line.length, m, line.total, m, r->firsts, MOST, r->lasts, MOST, r->levels, MOST);
+    r->results[5] = dawhikura_chart_mark(MOST, line.length, m, line.total, m, MOST, r->mark, 2);
+    r->results[6] = dawhikura_sheet_write(y, MOST, 50, line.length, m, line.total, m, r->written, SHEET);
+}
+
+/* a sheet with its line read, with too few fields too, and completed; and one without its line completed */
+static void sheet_calls(Run *r)
+{
+    r->results[7] = dawhikura_sheet_read(whole, whole_size, r->samples_read, MOST, r->lengths_read, MOST, r->totals_read, MOST, r->fields, 3);
+    r->results[8] = dawhikura_sheet_read(whole, whole_size, r->samples_read, MOST, r->lengths_read, MOST, r->totals_read, MOST, r->few, 2);
+    r->results[9] = dawhikura_sheet_complete(whole, whole_size, r->confirmed, SHEET);
+    r->results[10] = dawhikura_sheet_complete(bare, bare_size, r->completed, SHEET);
+}
+
+/* a run on the stack of the test, for the others to be compared with */
+static Run first;
+
+static void begin(void)
+{
+    uint64_t state = 12345;
+    for (size_t i = 0; i < MOST; i++)
+        y[i] = random_sample(&state, 1);
+    paper_line_long(y, MOST, 50, &line);
+    for (size_t s = 0; s < line.n; s++) {
+        records[s].length = line.length[s];
+        records[s].total = line.total[s];
+    }
+    whole_size = paper_sheet(whole, y, MOST, 50, &line);
+    bare_size = paper_sheet(bare, y, MOST, 50, NULL);
+    list_calls(&first);
+    sheet_calls(&first);
+    i64 m = (i64)line.n, size = (i64)whole_size, want[] = {m, MOST, 0, 0, m, 0, size, m, refusal(5, 0), size, size};
+    for (int i = 0; i < 11; i++)
+        answers("a run", first.results[i], want[i]);
+    answers("a run's line", memcmp(first.lengths, line.length, 4 * line.n) || memcmp(first.totals, line.total, 8 * line.n), 0);
+    answers("a run's samples", memcmp(first.samples_read, y, sizeof y), 0);
+    answers("a run's line, read", memcmp(first.lengths_read, line.length, 4 * line.n) || memcmp(first.totals_read, line.total, 8 * line.n), 0);
+    answers("a run's sheets", memcmp(first.written, whole, whole_size) || memcmp(first.confirmed, whole, whole_size), 0);
+    answers("a run's completed sheet", memcmp(first.completed, whole, whole_size), 0);
+}
+
+/* ---- NULL with a count of 0, for each area by itself where the others are not empty, and for all; the results are written by hand */
+static void nothing(void)
+{
+    int32_t s[] = {0, 10};
+    uint32_t n[] = {1, 1}, a[2], b[2];
+    i64 t[] = {1, 9}, u[2];
+    double v[2];
+    uint64_t fields[3];
+    dawhikura_segment g[] = {{1, 1}, {1, 9}};
+    uint8_t sheet[64], out[64];
+    static Line of_two;
+    set_line(&of_two, n, t, 2);
+    size_t size = paper_sheet(sheet, s, 2, 1, &of_two);
+    i64 none = refusal(1, 0), few = refusal(5, 0), shape = refusal(6, 0), cut = refusal(10, 0);
+
+    answers("dawhikura_series_line", dawhikura_series_line(s, 2, 1, a, 2, u, 2), 2);
+    answers("dawhikura_series_line, no samples", dawhikura_series_line(NULL, 0, 1, a, 2, u, 2), none);
+    answers("dawhikura_series_line, no lengths", dawhikura_series_line(s, 2, 1, NULL, 0, u, 2), few);
+    answers("dawhikura_series_line, no totals", dawhikura_series_line(s, 2, 1, a, 2, NULL, 0), few);
+    answers("dawhikura_series_line, nothing", dawhikura_series_line(NULL, 0, 1, NULL, 0, NULL, 0), none);
+
+    answers("dawhikura_series_balances", dawhikura_series_balances(s, 2, 1, u, 2), 2);
+    answers("dawhikura_series_balances, no samples", dawhikura_series_balances(NULL, 0, 1, u, 2), none);
+    answers("dawhikura_series_balances, no output", dawhikura_series_balances(s, 2, 1, NULL, 0), few);
+    answers("dawhikura_series_balances, nothing", dawhikura_series_balances(NULL, 0, 1, NULL, 0), none);
+
+    answers("dawhikura_series_check", dawhikura_series_check(s, 2, 1, n, 2, t, 2), 0);
+    answers("dawhikura_series_check, no samples", dawhikura_series_check(NULL, 0, 1, n, 2, t, 2), none);
+    answers("dawhikura_series_check, no lengths", dawhikura_series_check(s, 2, 1, NULL, 0, t, 2), shape);
+    answers("dawhikura_series_check, no totals", dawhikura_series_check(s, 2, 1, n, 2, NULL, 0), shape);
+    answers("dawhikura_series_check, no line", dawhikura_series_check(s, 2, 1, NULL, 0, NULL, 0), shape);
+    answers("dawhikura_series_check, nothing", dawhikura_series_check(NULL, 0, 1, NULL, 0, NULL, 0), none);
+
+    answers("dawhikura_series_check_segments", dawhikura_series_check_segments(s, 2, 1, g, 2), 0);
+    answers("dawhikura_series_check_segments, no samples", dawhikura_series_check_segments(NULL, 0, 1, g, 2), none);
+    answers("dawhikura_series_check_segments, no line", dawhikura_series_check_segments(s, 2, 1, NULL, 0), shape);
+    answers("dawhikura_series_check_segments, nothing", dawhikura_series_check_segments(NULL, 0, 1, NULL, 0), none);
+
+    answers("dawhikura_chart_segments", dawhikura_chart_segments(2, n, 2, t, 2, a, 2, b, 2, v, 2), 2);
+    answers("dawhikura_chart_segments, no lengths", dawhikura_chart_segments(2, NULL, 0, t, 2, a, 2, b, 2, v, 2), shape);
+    answers("dawhikura_chart_segments, no totals", dawhikura_chart_segments(2, n, 2, NULL, 0, a, 2, b, 2, v, 2), shape);
+    answers("dawhikura_chart_segments, no firsts", dawhikura_chart_segments(2, n, 2, t, 2, NULL, 0, b, 2, v, 2), few);
+    answers("dawhikura_chart_segments, no lasts", dawhikura_chart_segments(2, n, 2, t, 2, a, 2, NULL, 0, v, 2), few);
+    answers("dawhikura_chart_segments, no levels", dawhikura_chart_segments(2, n, 2, t, 2, a, 2, b, 2, NULL, 0), few);
+    answers("dawhikura_chart_segments, nothing", dawhikura_chart_segments(2, NULL, 0, NULL, 0, NULL, 0, NULL, 0, NULL, 0), shape);
+
+    answers("dawhikura_chart_mark", dawhikura_chart_mark(2, n, 2, t, 2, 1, v, 2), 1);
+    answers("dawhikura_chart_mark, no lengths", dawhikura_chart_mark(2, NULL, 0, t, 2, 1, v, 2), shape);
+    answers("dawhikura_chart_mark, no totals", dawhikura_chart_mark(2, n, 2, NULL, 0, 1, v, 2), shape);
+    answers("dawhikura_chart_mark, no levels", dawhikura_chart_mark(2, n, 2, t, 2, 1, NULL, 0), few);
+    answers("dawhikura_chart_mark, nothing", dawhikura_chart_mark(2, NULL, 0, NULL, 0, 1, NULL, 0), shape);
+
+    answers("dawhikura_sheet_read", dawhikura_sheet_read(sheet, size, s, 2, a, 2, u, 2, fields, 3), 2);
+    answers("dawhikura_sheet_read, no sheet", dawhikura_sheet_read(NULL, 0, s, 2, a, 2, u, 2, fields, 3), cut);
+    answers("dawhikura_sheet_read, no samples", dawhikura_sheet_read(sheet, size, NULL, 0, a, 2, u, 2, fields, 3), few);
+    answers("dawhikura_sheet_read, no lengths", dawhikura_sheet_read(sheet, size, s, 2, NULL, 0, u, 2, fields, 3), few);
+    answers("dawhikura_sheet_read, no totals", dawhikura_sheet_read(sheet, size, s, 2, a, 2, NULL, 0, fields, 3), few);
+    answers("dawhikura_sheet_read, no fields", dawhikura_sheet_read(sheet, size, s, 2, a, 2, u, 2, NULL, 0), few);
+    answers("dawhikura_sheet_read, no lists", dawhikura_sheet_read(sheet, size, NULL, 0, NULL, 0, NULL, 0, NULL, 0), few);
+    answers("dawhikura_sheet_read, nothing", dawhikura_sheet_read(NULL, 0, NULL, 0, NULL, 0, NULL, 0, NULL, 0), cut);
+
+    answers("dawhikura_sheet_write", dawhikura_sheet_write(s, 2, 1, n, 2, t, 2, out, 64), 64);
+    answers("dawhikura_sheet_write, no samples", dawhikura_sheet_write(NULL, 0, 1, n, 2, t, 2, out, 64), none);
+    answers("dawhikura_sheet_write, no lengths", dawhikura_sheet_write(s, 2, 1, NULL, 0, t, 2, out, 64), shape);
+    answers("dawhikura_sheet_write, no totals", dawhikura_sheet_write(s, 2, 1, n, 2, NULL, 0, out, 64), shape);
+    answers("dawhikura_sheet_write, no line", dawhikura_sheet_write(s, 2, 1, NULL, 0, NULL, 0, out, 64), 40);
+    answers("dawhikura_sheet_write, no output", dawhikura_sheet_write(s, 2, 1, n, 2, t, 2, NULL, 0), few);
+    answers("dawhikura_sheet_write, nothing", dawhikura_sheet_write(NULL, 0, 1, NULL, 0, NULL, 0, NULL, 0), none);
+
+    answers("dawhikura_sheet_complete", dawhikura_sheet_complete(sheet, size, out, 64), 64);
+    answers("dawhikura_sheet_complete, no sheet", dawhikura_sheet_complete(NULL, 0, out, 64), cut);
+    answers("dawhikura_sheet_complete, no output", dawhikura_sheet_complete(sheet, size, NULL, 0), few);
+    answers("dawhikura_sheet_complete, nothing", dawhikura_sheet_complete(NULL, 0, NULL, 0), cut);
+}
+
+/* ---- the stack */
+static Run small;
+
+static void lists_there(void)
+{
+    list_calls(&small);
+}
+
+static void sheets_there(void)
+{
+    sheet_calls(&small);
+}
+
+/* with nothing below it for as far as a call may reach */
+static void on_stack(size_t bytes, void (*calls)(void))
+{
+    enum { BELOW = 4 << 20 };
+    static ucontext_t here, there;
+    uint8_t *p = mmap(NULL, BELOW + bytes, PROT_READ | PROT_WRITE, MAP_PRIVATE | MAP_ANONYMOUS, -1, 0);
+    if (p == MAP_FAILED || mprotect(p, BELOW, PROT_NONE) || getcontext(&there)) {
+        printf("no stack to test with\n");
+        exit(1);
+    }
+    there.uc_stack.ss_sp = p + BELOW;
+    there.uc_stack.ss_size = bytes;
+    there.uc_link = &here;
+    makecontext(&there, calls, 0);
+    swapcontext(&here, &there);
+    munmap(p, BELOW + bytes);
+}
+
+static void stacks(void)
+{
+    on_stack(LIST_STACK, lists_there);
+    on_stack(SHEET_STACK, sheets_there);
+    answers("a run on the stack that the header names", memcmp(&small, &first, sizeof small), 0);
+}
+
+/* ---- threads, on the same inputs: each run fills the same as the first */
+enum { THREADS = 4, ROUNDS = 8 };
+static Run runs[THREADS];
+static pthread_barrier_t all_there;
+
+static void *rounds(void *run)
+{
+    void *other = NULL;
+    for (int i = 0; i < ROUNDS; i++) {
+        memset(run, 0, sizeof(Run));
+        pthread_barrier_wait(&all_there);
+        sheet_calls(run);
+        list_calls(run);
+        if (memcmp(run, &first, sizeof first))
+            other = run;
+    }
+    return other;
+}
+
+static void threads(void)
+{
+    pthread_t thread[THREADS];
+    pthread_barrier_init(&all_there, NULL, THREADS);
+    for (int i = 0; i < THREADS; i++)
+        if (pthread_create(&thread[i], NULL, rounds, &runs[i])) {
+            printf("no threads to test with\n");
+            exit(1);
+        }
+    for (int i = 0; i < THREADS; i++) {
+        void *other;
+        pthread_join(thread[i], &other);
+        answers("a run beside others", other != NULL, 0);
+    }
+}
+
+int main(void)
+{
+    begin();
+    nothing();
+    stacks();
+    threads();
+    printf("areas of no entries, stack, %d threads: as the header says\n", THREADS);
+    return 0;
+}
