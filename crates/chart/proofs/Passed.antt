@@ -1,5 +1,5 @@
 -- A line that passes the shape check can be drawn, and its neighbours differ; where it does not pass, the chart is refused as the shape is.
-use mathlib.Core.Path.{_≡_, refl}
+use mathlib.Core.Path.{_≡_, refl, sym, ap, _∙_}
 use mathlib.Core.Bool.{Bool, true, false, not, _||_, true≢false}
 use mathlib.Core.List.{List, [], _∷_}
 use mathlib.Core.Option.{Option, none, some}
@@ -17,7 +17,8 @@ use Rattle.level.specs.Order.{cross}
 use Rattle.optimality.specs.Plain.{segments}
 use Rattle.denoise.specs.Limits.{first-from, first}
 use Rattle.denoise.specs.Shape.{sum, beyond, equal-levels, equal-from, well-shaped}
-use Rattle.denoise.specs.Check.{shapeOf}
+use Rattle.denoise.specs.Check.{checked, shapeOf}
+use Rattle.denoise.specs.declared.Checked.{Checked}
 use Rattle.denoise.specs.Walk.{segment}
 use Rattle.denoise.proofs.Refusals.{never}
 use Rattle.denoise.proofs.First.{none-found, none-picked}
@@ -100,3 +101,14 @@ module _ (n : ℕ) (ns : List ℕ) (ts : List ℤ) where
         small = small-at ns ts 1 (r .4) l k h;
       } in
       record { drawable = record { paired = l; valid = valid; short = omega arith }; long = long; differ = differ-at ns ts 1 (r .5) l }
+
+  -- by the outcome of the shape check, which is r
+  module _ {x : Checked} (e : checked x ≡ shapeOf n ns ts) {r : Checked} (f : x ≡ r) where
+    told : checked r ≡ shapeOf n ns ts
+    told = ap checked (sym f) ∙ e
+
+    pub answer-is : {A : Type 0} (y : Answer A) → then (checked r) y ≡ refuse-if (eqb n 0) 1 0 (refuse-if (ltb 65536 n) 2 0 (well-shaped n ns ts y))
+    answer-is y = shaped-is n ns ts y told
+
+    pub drawable-if : given tt ≡ checked r → Drawable ns ts
+    drawable-if p = passed (sym (p ∙ told)) .drawable
