@@ -13,6 +13,8 @@ use Rattle.level.specs.Order.{cross}
 use Rattle.optimality.specs.Segments.{total-length, Differs, Proper}
 use Rattle.optimality.specs.Range.{Within}
 use Rattle.optimality.specs.Plain.{segments}
+use Rattle.series.specs.Answer.{checked}
+use Rattle.series.specs.declared.Checked.{Checked}
 use Rattle.series.proofs.Refusals.{never, if-past, pass, if-alike, then, then-is}
 use Rattle.checker.specs.Shape.{well-shaped}
 use Rattle.checker.specs.Check.{shapeOf}
@@ -63,3 +65,14 @@ module _ (n : ℕ) (ns : List ℕ) (ts : List ℤ) where
       let long : sum ns ≡ n = sum-is ns ts (s .0) ∙ s .1 .long in
       let valid : (k : ℕ) → k < length ns → Valid (nth ns ts k) = λ k h. valid-at ns ts (s .1 .proper) (s .1 .totals) (s .0) k h (omega (arith, sum-next ns k h, sum-part ns (suc k))) in
       record { drawable = record { paired = s .0; valid = valid; short = omega arith }; long = long; differ = differ-at ns ts (s .1 .proper) (s .0) }
+
+  -- by the outcome of the shape check, which is r
+  module _ {x : Checked} (e : checked x ≡ shapeOf n ns ts) {r : Checked} (f : x ≡ r) where
+    told : checked r ≡ shapeOf n ns ts
+    told = ap checked (sym f) ∙ e
+
+    pub answer-is : {A : Type 0} (y : Answer A) → then (checked r) y ≡ refuse-if (eqb n 0) 1 0 (refuse-if (ltb 65536 n) 2 0 (well-shaped n ns ts y))
+    answer-is y = shaped-is n ns ts y told
+
+    pub drawable-if : given tt ≡ checked r → Drawable ns ts
+    drawable-if p = passed (sym (p ∙ told)) .drawable

@@ -208,8 +208,9 @@ fn minutes(lengths: &[u32], k: usize) -> u32
 
 fn level_at(lengths: &[u32], totals: &[i64], k: usize) -> Level
     requires { ⌜ k < length (now lengths) ⌝ }
-    requires { ⌜ length (now lengths) ≡ length (now totals) ⌝ }
+    requires { ⌜ Drawable (now lengths) (now totals) ⌝ }
     ensures { λ r. ⌜ r ≡ nth (now (lengths .entry)) (now (totals .entry)) k ⌝ }
+    ensures { λ r. ⌜ Valid r ⌝ }
 {
     Level {
         length: lengths[k],

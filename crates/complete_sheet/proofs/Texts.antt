@@ -17,12 +17,6 @@ pub record Put (s : List ℕ) (at k : ℕ) (text : List ℕ) (next : ℕ) (l : L
   pub most : next ≤ at + k
   pub bytes : l ≡ overwrite s at text
 
--- the characters of a number, copied from the start of a list that has them
-pub copied : (s : List ℕ) (at : ℕ) (text d d′ : List ℕ) (k r : ℕ) (l : List ℕ) → k ≡ length text → d′ ≡ overwrite d 0 text
-    → (r ≡ at + length (take k d′)) × (l ≡ overwrite s at (take k d′)) → (r ≡ at + length text) × (l ≡ overwrite s at text)
-unfolding overwrite
-copied s at text d d′ k r l e f p = rw (f, take-at text (drop (0 + length text) d) k (sym e)) at p
-
 -- one text, then another
 pub then : {s : List ℕ} {at k : ℕ} {text : List ℕ} {next : ℕ} {l : List ℕ} {j : ℕ} {more : List ℕ} {next′ : ℕ} {l′ : List ℕ}
     → at + (k + j) ≤ length s → Put s at k text next l → Put l next j more next′ l′ → Put s at (k + j) (text ++ more) next′ l′
@@ -47,6 +41,12 @@ Number s at text next l = (next ≡ at + length text) × ((next ≤ at + 20) × 
 
 abbrev pub Word : List ℕ → ℕ → List ℕ → ℕ → List ℕ → Type 0
 Word s at text next l = (next ≡ at + length text) × (l ≡ overwrite s at text)
+
+-- a number, from the start of a list that begins with its characters
+pub copied : (s : List ℕ) (at : ℕ) (text d d′ : List ℕ) (k r : ℕ) (l : List ℕ) → k ≡ length text → k ≤ 20 → d′ ≡ overwrite d 0 text
+    → (r ≡ at + k) × (l ≡ overwrite s at (take k d′)) → Number s at text r l
+unfolding overwrite
+copied s at text d d′ k r l e m f (p, q) = (omega arith, (omega arith, rw (f, take-at text (drop (0 + length text) d) k (sym e)) at q))
 
 module _ (s : List ℕ) (at : ℕ) (text : List ℕ) {next : ℕ} {l : List ℕ} where
   number : Number s at text next l → Put s at 20 text next l

@@ -1,17 +1,14 @@
 -- What the program prints for a sheet (RULES 9.2), as ASCII codes.
-use mathlib.Core.Path.{_≡_}
 use mathlib.Core.Bool.{cond}
 use mathlib.Core.List.{List, [], _∷_, _++_}
-use Prim.Native.Nat.{ℕ, _+_, _≤_, _<_}
+use Prim.Native.Nat.{ℕ, _+_}
 use lib.Dec.{ltb}
-use lib.ListN.{length, take, replicate}
+use lib.ListN.{length, replicate}
 use lib.IntN.{ℤ, pos}
 use Rattle.optimality.specs.Plain.{line-lengths, line-totals}
 use Rattle.optimality.specs.Machine.{plain-line}
 use Rattle.level.specs.Answer.{Answer, refused, given}
-use Rattle.series.specs.Limits.{in-limits}
 use Rattle.text.specs.Decimal.{decimal, signedDecimal}
-use Rattle.series.specs.Answer.{passing}
 use Rattle.sheet.specs.Format.{samples}
 use Rattle.sheet.specs.Read.{readOf}
 use Rattle.sheet.specs.declared.Fields.{Fields}

@@ -3,7 +3,7 @@
 // `report` composes the whole text, and its contract says every byte of it; `main` hands it on.
 ghost use mathlib.Core.Path.{_≡_};
 ghost use Prim.Native.Nat.{_+_, _*_, _≤_};
-ghost use lib.ListN.{length};
+ghost use lib.ListN.{length, take};
 ghost use lib.IntN.{pos};
 ghost use Rattle.optimality.specs.Machine.{plain-line};
 ghost use Rattle.codec.specs.Place.{overwrite};
@@ -31,6 +31,16 @@ fn put_bytes(out: &mut [u8], at: usize, text: &[u8]) -> usize
     at + i
 }
 
+// The first k characters of a number's text, from at on. The result is the place after them.
+fn put_text(out: &mut [u8], at: usize, digits: [u8; 20], k: usize) -> usize
+    requires { ⌜ k ≤ 20 ⌝ }
+    requires { ⌜ at + 20 ≤ length (now out) ⌝ }
+    ensures { λ r. ⌜ r ≡ at + k ⌝ }
+    ensures { λ _. ⌜ now (out .exit) ≡ overwrite (now (out .entry)) at (take k digits) ⌝ }
+{
+    put_bytes(out, at, &digits[..k])
+}
+
 // n in decimal from at on. The result is the place after it.
 fn put_decimal(out: &mut [u8], at: usize, n: u64) -> usize
     requires { ⌜ at + 20 ≤ length (now out) ⌝ }
@@ -40,7 +50,7 @@ fn put_decimal(out: &mut [u8], at: usize, n: u64) -> usize
 {
     let mut digits = [0u8; 20];
     let k = text::decimal(n, &mut digits);
-    put_bytes(out, at, &digits[..k])
+    put_text(out, at, digits, k)
 }
 
 // x in decimal, with its sign where it is negative, from at on. The result is the place after it.
@@ -52,7 +62,7 @@ fn put_signed_decimal(out: &mut [u8], at: usize, x: i64) -> usize
 {
     let mut digits = [0u8; 20];
     let k = text::signed_decimal(x, &mut digits);
-    put_bytes(out, at, &digits[..k])
+    put_text(out, at, digits, k)
 }
 
 // One line for a segment, from at on. The result is the place after it.

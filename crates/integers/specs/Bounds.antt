@@ -10,7 +10,7 @@ use native.Mathlib.Omega.{arith}
 use native.Mathlib.Nat.{mul-le-mul-left, mul-le-mul-right, le-trans}
 use lib.Dec.{T, ltb, ltb→lt}
 use lib.IntN.{ℤ, pos, negsuc, negℤ, natAbs, _+ℤ_, _*ℤ_}
-use lib.Signed.{mag, natAbs-le}
+use lib.Signed.{mag}
 use mir.Facts.{toZ-ofZ, toZ-pos}
 use mir.Syntax.{Width}
 use mir.Val.{SFits, hbits, toZ, ofZ}
@@ -93,14 +93,7 @@ cl-cast w b n h = record {
   ok = λ t. (toZ-pos w (omega (arith, h .atmost, ltb→lt b (2 ^ hbits w) t)), omega (arith, h .atmost));
 }
 
--- a local of which no more is known than its type
-abbrev pub cl-arg : (w : Width) (x : ℤ) → SFits w x → Clean (toZ w (ofZ w x))
-cl-arg w x f = record { val = x; bound = 2 ^ hbits w; good = true; ok = λ t. (toZ-ofZ f, natAbs-le x (f .sfits)) }
-
 pub ruleset cleaning = (cl-given, cl-cast, cl-read, cl-pos, cl-negsuc, cl-neg, cl-add, cl-mul)
-
--- the same, with the types' own bounds. `search` takes the shallowest proof, so this one takes a type's bound before a smaller one that is known
-pub ruleset cleaning-by-type = (cl-arg, cleaning)
 
 -- a need that a result fits: fit (search cleaning depth 20) tt
 pub fit : {w : Width} {z : ℤ} (h : Clean z) → T (h .good && ltb (h .bound) (2 ^ hbits w)) → SFits w z

@@ -26,7 +26,7 @@ pub *-cancel≡ : (x y k : ℤ) → pos 0 ⋖ k → x *ℤ k ≡ y *ℤ k → x 
 pub *-cancel< : (x y k : ℤ) → pos 0 ⋖ k → x *ℤ k ⋖ y *ℤ k → x ⋖ y
 *-cancel< x y k p h = ⊎-elim (λ l. l) (λ (g : y ⩽ x). let q : y *ℤ k ⩽ x *ℤ k = *-mono y x k (⋖→⩽ p) g in absurd (omega int)) (lt-or-ge x y)
 
--- − L |d| ≤ u d ≤ L |d|, where − L ≤ u ≤ L
+-- − L |d| ≤ u d, where − L ≤ u ≤ L
 low⁺ : (L u D : ℤ) → pos 0 ⩽ D → negℤ L ⩽ u → negℤ L *ℤ D ⩽ u *ℤ D
 low⁺ L u D p h = by⩽ (L ∷ u ∷ D ∷ []) (gap h ⊗ p) (search reify depth 12) refl
 
@@ -36,16 +36,6 @@ low⁻ L u D p h = by⩽ (L ∷ u ∷ D ∷ []) (gap h ⊗ p) (search reify dept
 pub low : (L u d : ℤ) → negℤ L ⩽ u → u ⩽ L → negℤ L *ℤ absℤ d ⩽ u *ℤ d
 low L u (pos n) h k = low⁺ L u (pos n) (0⩽pos n) h
 low L u (negsuc n) h k = low⁻ L u (pos (suc n)) (0⩽pos (suc n)) k
-
-high⁺ : (L u D : ℤ) → pos 0 ⩽ D → u ⩽ L → u *ℤ D ⩽ L *ℤ D
-high⁺ L u D p h = by⩽ (L ∷ u ∷ D ∷ []) (gap h ⊗ p) (search reify depth 12) refl
-
-high⁻ : (L u D : ℤ) → pos 0 ⩽ D → negℤ L ⩽ u → u *ℤ negℤ D ⩽ L *ℤ D
-high⁻ L u D p h = by⩽ (L ∷ u ∷ D ∷ []) (gap h ⊗ p) (search reify depth 12) refl
-
-pub high : (L u d : ℤ) → negℤ L ⩽ u → u ⩽ L → u *ℤ d ⩽ L *ℤ absℤ d
-high L u (pos n) h k = high⁺ L u (pos n) (0⩽pos n) k
-high L u (negsuc n) h k = high⁻ L u (pos (suc n)) (0⩽pos (suc n)) h
 
 -- x < y, x = y or y < x
 pub tri : (x y : ℤ) → (x ⋖ y) ⊎ ((x ≡ y) ⊎ (y ⋖ x))

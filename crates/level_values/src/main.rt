@@ -1,6 +1,7 @@
 // Runs outside vectors through the level library and prints a line for each: the two levels, whether the first is one, how it compares
 // with the second, and its plotted level as the bits of the f64. tests/level_values.py makes the vectors and `stdout` from exact fractions.
 
+ghost use Prim.Native.Nat.{_<_};
 use level::Compared;
 use level::Level;
 use level::Made;
@@ -56,20 +57,25 @@ fn put_row(a: Level, b: Level) {
     put(b"\n");
 }
 
+// Row r.
+fn show(r: usize)
+    requires { do ⌜ r < (← ⟦vectors::ROWS⟧) ⌝ }
+{
+    let i = 2 * r;
+    let j = i + 1;
+    let a = Level {
+        length: vectors::LENGTHS[i],
+        total: vectors::TOTALS[i],
+    };
+    let b = Level {
+        length: vectors::LENGTHS[j],
+        total: vectors::TOTALS[j],
+    };
+    put_row(a, b);
+}
+
 fn main() {
-    let lengths = vectors::LENGTHS;
-    let totals = vectors::TOTALS;
     for r in 0..vectors::ROWS {
-        let i = 2 * r;
-        let j = i + 1;
-        let a = Level {
-            length: lengths[i],
-            total: totals[i],
-        };
-        let b = Level {
-            length: lengths[j],
-            total: totals[j],
-        };
-        put_row(a, b);
+        show(r);
     }
 }

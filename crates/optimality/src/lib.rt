@@ -1,0 +1,1 @@
+// No code: the mathematics of the line stands in specs/.

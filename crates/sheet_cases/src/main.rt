@@ -1,6 +1,8 @@
 // Runs stored sheets through the reader, the writer and the completer and prints what each answers and what it leaves in lent memory.
 // tests/sheet_cases.py makes the sheets and `stdout` from docs/RULES.md.
 
+ghost use mathlib.Core.Path.{_≡_};
+ghost use Prim.Native.Nat.{_<_};
 use printing::put;
 use printing::put_refusal;
 use printing::put_signed;
@@ -10,6 +12,19 @@ use sheet::Reading;
 use sheet::Written;
 
 mod vectors;
+
+// The lists that the reader fills.
+enum List {
+    Samples,
+    Lengths,
+    Totals,
+}
+
+// The bytes that a call writes, and those after them.
+enum Part {
+    Result,
+    After,
+}
 
 fn put_fields(f: Fields) {
     put(b"valid ");
@@ -21,85 +36,83 @@ fn put_fields(f: Fields) {
     put(b"\n");
 }
 
-fn put_sample(x: i32) {
+fn wide(x: i32) -> i64
+    ensures { λ r. ⌜ r ≡ x ⌝ }
+{
+    x as i64
+}
+
+// Entry k of one of the three lists.
+fn put_entry(list: List, samples: [i32; 16], lengths: [u32; 16], totals: [i64; 16], k: usize)
+    requires { ⌜ k < 16 ⌝ }
+{
     put(b" ");
-    put_signed(x as i64);
-}
-
-fn put_length(x: u32) {
-    put(b" ");
-    put_unsigned(x as u64);
-}
-
-fn put_total(x: i64) {
-    put(b" ");
-    put_signed(x);
-}
-
-fn put_byte(x: u8) {
-    io::print_hex(1, x as u64, 2);
-}
-
-fn put_samples(xs: &[i32]) {
-    let mut k = 0;
-    while k < xs.len() {
-        put_sample(xs[k]);
-        k += 1;
+    match list {
+        List::Samples => put_signed(wide(samples[k])),
+        List::Lengths => put_unsigned(lengths[k] as u64),
+        List::Totals => put_signed(totals[k]),
     }
 }
 
-fn put_lengths(xs: &[u32]) {
-    let mut k = 0;
-    while k < xs.len() {
-        put_length(xs[k]);
-        k += 1;
+fn put_list(list: List, samples: [i32; 16], lengths: [u32; 16], totals: [i64; 16]) {
+    for k in 0..16 {
+        put_entry(list, samples, lengths, totals, k);
     }
 }
 
-fn put_totals(xs: &[i64]) {
-    let mut k = 0;
-    while k < xs.len() {
-        put_total(xs[k]);
-        k += 1;
-    }
-}
-
-fn put_lists(samples: &[i32], lengths: &[u32], totals: &[i64]) {
+fn put_lists(samples: [i32; 16], lengths: [u32; 16], totals: [i64; 16]) {
     put(b"samples");
-    put_samples(samples);
+    put_list(List::Samples, samples, lengths, totals);
     put(b"\nlengths");
-    put_lengths(lengths);
+    put_list(List::Lengths, samples, lengths, totals);
     put(b"\ntotals");
-    put_totals(totals);
+    put_list(List::Totals, samples, lengths, totals);
     put(b"\n");
 }
 
-// The first bytes, in hex.
-fn put_hex(xs: &[u8], count: usize) {
-    let mut k = 0;
-    while k < xs.len() {
-        if k < count {
-            put_byte(xs[k]);
+// Byte k in hex, where it is of the part: after a result only where it is no longer the filler.
+fn put_byte(part: Part, out: [u8; 320], count: usize, k: usize)
+    requires { ⌜ k < 320 ⌝ }
+{
+    let x = out[k] as u64;
+    match part {
+        Part::Result => {
+            if k < count {
+                io::print_hex(1, x, 2);
+            }
         }
-        k += 1;
+        Part::After => {
+            if k >= count {
+                if x != 85 {
+                    put(b" ");
+                    io::print_hex(1, x, 2);
+                }
+            }
+        }
     }
 }
 
-// The bytes from `from` on that are no longer the filler: none where memory past a result is kept.
-fn put_changed(xs: &[u8], from: usize) {
+fn put_bytes(part: Part, out: [u8; 320], count: usize) {
+    for k in 0..320 {
+        put_byte(part, out, count, k);
+    }
+}
+
+// The bytes after the first `count` that are no longer the filler: none where memory past a result is kept.
+fn put_changed(out: [u8; 320], count: usize) {
     put(b"changed");
-    let mut k = from;
-    while k < xs.len() {
-        if xs[k] != 85 {
-            put(b" ");
-            put_byte(xs[k]);
-        }
-        k += 1;
-    }
+    put_bytes(Part::After, out, count);
     put(b"\n");
 }
 
-fn put_written(written: Written, out: &[u8]) {
+// A result of `count` bytes, and what is changed after it.
+fn put_result(out: [u8; 320], count: usize) {
+    put_bytes(Part::Result, out, count);
+    put(b" ");
+    put_changed(out, count);
+}
+
+fn put_written(written: Written, out: [u8; 320]) {
     put(b"written ");
     match written {
         Written::Refused(number, place) => {
@@ -109,24 +122,19 @@ fn put_written(written: Written, out: &[u8]) {
         Written::Bytes(count) => {
             put_unsigned(count as u64);
             put(b" ");
-            put_hex(out, count);
-            put(b" ");
-            put_changed(out, count);
+            put_result(out, count);
         }
     }
 }
 
 // What was read, written again.
-fn show_write(f: Fields, samples: &[i32], lengths: &[u32], totals: &[i64]) {
+fn show_write(f: Fields, samples: [i32; 16], lengths: [u32; 16], totals: [i64; 16]) {
     let n = f.minutes as usize;
     let m = f.segments as usize;
-    if n > samples.len() {
+    if n > 16 {
         return;
     }
-    if m > lengths.len() {
-        return;
-    }
-    if m > totals.len() {
+    if m > 16 {
         return;
     }
     let mut out = [85u8; 320];
@@ -137,10 +145,10 @@ fn show_write(f: Fields, samples: &[i32], lengths: &[u32], totals: &[i64]) {
         &totals[..m],
         &mut out,
     );
-    put_written(r, &out);
+    put_written(r, out);
 }
 
-fn put_reading(reading: Reading, samples: &[i32], lengths: &[u32], totals: &[i64]) {
+fn put_reading(reading: Reading, samples: [i32; 16], lengths: [u32; 16], totals: [i64; 16]) {
     put(b"read ");
     match reading {
         Reading::Refused(number, place) => {
@@ -176,10 +184,10 @@ fn show_read(sheet: &[u8], p: usize, q: usize, r: usize) {
         &mut lengths[..q],
         &mut totals[..r],
     );
-    put_reading(reading, &samples, &lengths, &totals);
+    put_reading(reading, samples, lengths, totals);
 }
 
-fn put_completed(written: Written, out: &[u8]) {
+fn put_completed(written: Written, out: [u8; 320]) {
     put(b"complete ");
     match written {
         Written::Refused(number, place) => {
@@ -190,9 +198,7 @@ fn put_completed(written: Written, out: &[u8]) {
         Written::Bytes(count) => {
             put_unsigned(count as u64);
             put(b"\n");
-            put_hex(out, count);
-            put(b" ");
-            put_changed(out, count);
+            put_result(out, count);
         }
     }
 }
@@ -204,32 +210,34 @@ fn show_complete(sheet: &[u8], w: usize) {
     }
     let mut out = [85u8; 320];
     let r = sheet::complete(sheet, &mut out[..w]);
-    put_completed(r, &out);
+    put_completed(r, out);
 }
 
-fn show(number: usize, sheet: &[u8], p: usize, q: usize, r: usize, w: usize) {
-    put(b"case ");
-    put_unsigned(number as u64);
-    put(b"\n");
-    show_read(sheet, p, q, r);
-    show_complete(sheet, w);
+// Case i.
+fn show(i: usize)
+    requires { do ⌜ i < (← ⟦vectors::CASES⟧) ⌝ }
+{
+    let bytes = vectors::BYTES;
+    let a = vectors::STARTS[i];
+    let b = vectors::ENDS[i];
+    if a <= b {
+        if b <= bytes.len() {
+            put(b"case ");
+            put_unsigned(i as u64);
+            put(b"\n");
+            show_read(
+                &bytes[a..b],
+                vectors::SAMPLES[i],
+                vectors::LENGTHS[i],
+                vectors::TOTALS[i],
+            );
+            show_complete(&bytes[a..b], vectors::OUTPUTS[i]);
+        }
+    }
 }
 
 fn main() {
-    let bytes = vectors::BYTES;
-    let starts = vectors::STARTS;
-    let ends = vectors::ENDS;
-    let p = vectors::SAMPLES;
-    let q = vectors::LENGTHS;
-    let r = vectors::TOTALS;
-    let w = vectors::OUTPUTS;
     for i in 0..vectors::CASES {
-        let a = starts[i];
-        let b = ends[i];
-        if a <= b {
-            if b <= bytes.len() {
-                show(i, &bytes[a..b], p[i], q[i], r[i], w[i]);
-            }
-        }
+        show(i);
     }
 }

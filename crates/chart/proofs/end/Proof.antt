@@ -12,7 +12,7 @@ level-at-requires : tie.Need-level-at-requires
 level-at-requires c κs = search needs
 
 turn-requires : tie.Need-turn-requires
-turn-requires c κs = let s = c .before .before .before in (s .pre .0, rw (c .level-at .ensures) (s .pre .1 .valid (s .args .k) (c .before .if1 .taken)))
+turn-requires c κs = search needs
 
 returns : tie.Need-returns
 returns c =
@@ -21,7 +21,7 @@ returns c =
     let h = t .if1 .taken in
     let g : s .args .k < length (s .args .totals .now) = omega arith in
     rw (drop-cons (s .args .lengths .now) (s .args .k) 0 h, drop-cons (s .args .totals .now) (s .args .k) (pos 0) g)
-    (rw (c .before .level-at .ensures) at (c .turn .ensures))
+    (rw (c .before .level-at .ensures .0) at (c .turn .ensures))
 
 plotted-requires : tie.Need-plotted-requires
 plotted-requires c κs = search needs

@@ -4,7 +4,6 @@ use native.Mathlib.Numerals.{add-one}
 use native.Mathlib.Omega.{arith}
 use Prim.Native.Nat.{suc, _+_, _-_, _≤_}
 use lib.ListN.{length, getD, take}
-use Rattle.level.specs.Limits.{Valid}
 use Rattle.level.specs.declared.Level.{Level}
 use Rattle.chart.specs.Drawable.{sum}
 use Rattle.chart.proofs.Sums.{sum-next, sum-part}
@@ -25,7 +24,7 @@ loop-holds c =
     (omega arith, (omega arith, (left-all _ _ _ _ (omega arith), (left-all _ _ _ _ (omega arith), left-all _ _ _ _ (omega arith)))))
 
 level-at-requires : tie.Need-level-at-requires Inv-loop μ-loop
-level-at-requires c κs = (omega arith, c .before .before .before .before .before .before .pre .0 .paired)
+level-at-requires c κs = (omega arith, c .before .before .before .before .before .before .pre .0)
 
 -- the segment at hand
 module _ (c : tie.After-level-at Inv-loop μ-loop) where
@@ -36,13 +35,10 @@ module _ (c : tie.After-level-at Inv-loop μ-loop) where
   s = a .before .before .before .before .before
 
   long : c .level-at .result .length ≡ getD (s .args .lengths .now) (a .loop .k) 0
-  long = ap (λ (l : Level). l .length) (c .level-at .ensures)
+  long = ap (λ (l : Level). l .length) (c .level-at .ensures .0)
 
   next : a .loop .before + c .level-at .result .length ≡ sum (take (suc (a .loop .k)) (s .args .lengths .now))
   next = omega (arith, long, a .loop .inv .1 .0, sum-next (s .args .lengths .now) (a .loop .k) (c .before .loop-test .taken))
-
-  valid : Valid (c .level-at .result)
-  valid = rw (c .level-at .ensures) (s .pre .0 .valid (a .loop .k) (c .before .loop-test .taken))
 
   within : a .loop .before + c .level-at .result .length ≤ 65536
   within = omega (arith, next, sum-part (s .args .lengths .now) (suc (a .loop .k)), s .pre .0 .short)
@@ -66,7 +62,7 @@ slice-write-lasts : tie.Need-slice-write-lasts Inv-loop μ-loop
 slice-write-lasts c = omega arith
 
 plotted-requires : tie.Need-plotted-requires Inv-loop μ-loop
-plotted-requires c κs = valid (c .before)
+plotted-requires c κs = c .before .level-at .ensures .1
 
 mul-levels : tie.Need-mul-levels Inv-loop μ-loop
 mul-levels c = omega arith
@@ -86,7 +82,7 @@ loop-again c =
     let h = e .before .loop-test .taken in
     let l = s e .pre .0 .paired in
     let i = a e .loop .inv .1 .1 in
-    let t = e .level-at .ensures in (
+    let t = e .level-at .ensures .0 in (
       omega arith,
       (
         rw (add-one (a e .loop .k)) (next e),

@@ -4,7 +4,6 @@ use native.Mathlib.Numerals.{add-one}
 use native.Mathlib.Omega.{arith}
 use Prim.Native.Nat.{_-_, _<_, _≤_}
 use lib.ListN.{length, getD, drop, drop-of-length-le}
-use Rattle.level.specs.Limits.{Valid}
 use Rattle.level.specs.declared.Level.{Level}
 use Rattle.chart.specs.Chart.{mark-at, or-13}
 use Rattle.chart.proofs.Found.{mark-0, mark-inside, mark-end, mark-beyond}
@@ -24,7 +23,7 @@ loop-holds : tie.Need-loop-holds Inv-loop μ-loop
 loop-holds c = (omega arith, (omega arith, refl))
 
 level-at-requires : tie.Need-level-at-requires Inv-loop μ-loop
-level-at-requires c κs = (omega arith, c .before .before .before .before .pre .paired)
+level-at-requires c κs = (omega arith, c .before .before .before .before .pre)
 
 cast-length : tie.Need-cast-length Inv-loop μ-loop
 cast-length c = omega arith
@@ -38,33 +37,30 @@ module _ (c : tie.After-level-at Inv-loop μ-loop) where
   s = a .before .before .before
 
   long : c .level-at .result .length ≡ getD (s .args .lengths .now) (a .loop .k) 0
-  long = ap (λ (l : Level). l .length) (c .level-at .ensures)
-
-  valid : Valid (c .level-at .result)
-  valid = rw (c .level-at .ensures) (s .pre .valid (a .loop .k) (c .before .loop-test .taken))
+  long = ap (λ (l : Level). l .length) (c .level-at .ensures .0)
 
 add-k : tie.Need-add-k Inv-loop μ-loop
 add-k c = omega arith
 
 plotted-requires : tie.Need-plotted-requires Inv-loop μ-loop
-plotted-requires c κs = valid (c .before .before)
+plotted-requires c κs = c .before .before .level-at .ensures .1
 
 returns-2 : tie.Need-returns-2 Inv-loop μ-loop
 returns-2 c =
     let e = c .before .before .before in
     let f = a e .loop .inv .1 in
     let m = mark-inside (s e .args .lengths .now) (s e .args .totals .now) (s e .pre .paired) (a e .loop .k) (e .before .loop-test .taken) (a e .loop .left) (f .0) (omega (arith, long e)) in
-    rw (c .plotted .ensures, e .level-at .ensures) (ap or-13 (sym m ∙ f .1))
+    rw (c .plotted .ensures, e .level-at .ensures .0) (ap or-13 (sym m ∙ f .1))
 
 end-requires : tie.Need-end-requires Inv-loop μ-loop
-end-requires c κs = let e = c .before .before .before in (valid e, s e .pre)
+end-requires c κs = let e = c .before .before .before in (e .level-at .ensures .1, s e .pre)
 
 returns-3 : tie.Need-returns-3 Inv-loop μ-loop
 returns-3 c =
     let e = c .before .before .before .before in
     let f = a e .loop .inv .1 in
     let m = mark-end (s e .args .lengths .now) (s e .args .totals .now) (s e .pre .paired) (a e .loop .k) (e .before .loop-test .taken) (a e .loop .left) (f .0) (c .before .if3 .taken ∙ long e) in
-    rw (c .end .ensures, e .level-at .ensures, add-one (a e .loop .k)) (ap or-13 (sym m ∙ f .1))
+    rw (c .end .ensures, e .level-at .ensures .0, add-one (a e .loop .k)) (ap or-13 (sym m ∙ f .1))
 
 loop-less : tie.Need-loop-less Inv-loop μ-loop
 loop-less c = omega arith

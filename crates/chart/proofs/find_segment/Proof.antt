@@ -4,7 +4,6 @@ use mathlib.Core.Path.{_≡_}
 use native.Mathlib.Omega.{arith}
 use Prim.Native.Nat.{suc, _-_, _+_, _≤_}
 use lib.ListN.{length}
-use Rattle.level.specs.Limits.{Valid}
 use Rattle.chart.specs.Drawable.{sum}
 use Rattle.chart.specs.Chart.{segment-at}
 use Rattle.chart.proofs.Sums.{sum-next, sum-part}
@@ -28,25 +27,22 @@ minutes-requires c κs = search needs
 level-at-requires : tie.Need-level-at-requires
 level-at-requires c κs = search needs
 
-valid : (c : tie.After-level-at) → Valid (c .level-at .result)
-valid c = let s = c .before .before .before .before .before in rw (c .level-at .ensures) (s .pre .valid (s .args .index - 1) (omega arith))
-
 -- the segment's minutes are among those of the line
 within : (c : tie.After-level-at) → let s = c .before .before .before .before .before in c .before .minutes .result + c .level-at .result .length ≤ sum (s .args .lengths .now)
 within c =
     let s = c .before .before .before .before .before in
     let ns = s .args .lengths .now in
     let k = s .args .index - 1 in
-    rw (c .before .minutes .ensures, c .level-at .ensures) (rw (sum-next ns k (omega arith)) at (sum-part ns (suc k)))
+    rw (c .before .minutes .ensures, c .level-at .ensures .0) (rw (sum-next ns k (omega arith)) at (sum-part ns (suc k)))
 
 add-first : tie.Need-add-first
-add-first c = omega (arith, valid c .some, within c)
+add-first c = omega (arith, c .level-at .ensures .1 .some, within c)
 
 add-last : tie.Need-add-last
 add-last c = omega (arith, within (c .before))
 
 plotted-requires : tie.Need-plotted-requires
-plotted-requires c κs = valid (c .before)
+plotted-requires c κs = search needs
 
 returns-3 : tie.Need-returns-3
 returns-3 c =
@@ -54,7 +50,7 @@ returns-3 c =
     let s = l .before .before .before .before .before in
     let k = s .args .index - 1 in
     let e : s .args .index ≡ suc k = omega arith in
-    rw (e, segment-found (s .args .lengths .now) (s .args .totals .now) k (omega arith) (s .pre .paired), c .plotted .ensures, l .level-at .ensures, l .before .minutes .ensures)
+    rw (e, segment-found (s .args .lengths .now) (s .args .totals .now) k (omega arith) (s .pre .paired), c .plotted .ensures, l .level-at .ensures .0, l .before .minutes .ensures)
 
 pub find-segment-spec : {M : Type 1} → statement M
 find-segment-spec =

@@ -16,21 +16,6 @@ use Rattle.level.proofs.OrderLaws.{total}
 use Rattle.chart.proofs.rises.Statement.{statement}
 use Rattle.chart.proofs.rises.Tie as tie
 
-compare-requires : tie.Need-compare-requires
-compare-requires c κs = search needs
-
-enum-told : tie.Need-enum-told
-enum-told c = search needs
-
-enum-told-2 : tie.Need-enum-told-2
-enum-told-2 c = search needs
-
-enum-told-3 : tie.Need-enum-told-3
-enum-told-3 c = search needs
-
-enum-told-4 : tie.Need-enum-told-4
-enum-told-4 c = search needs
-
 abbrev less : Answer ℤ → Bool
 less (refused number place) = false
 less (given (pos k)) = false
@@ -46,28 +31,16 @@ less-is a b h k =
 told : (c : tie.After-compare) (r : Compared) → c .compare .result ≡ r → less (compared r) ≡ ltZ (cross (c .before .args .a) (c .before .args .b)) (cross (c .before .args .b) (c .before .args .a))
 told c r e = ap less (ap compared (sym e) ∙ c .compare .ensures) ∙ less-is _ _ (c .before .pre .0) (c .before .pre .1)
 
-returns : tie.Need-returns
-returns c = told (c .before .before) _ (c .enum-told .given .1)
-
-returns-2 : tie.Need-returns-2
-returns-2 c = told (c .before .before) _ (c .enum-told2 .given .1)
-
-returns-3 : tie.Need-returns-3
-returns-3 c = told (c .before .before) _ (c .enum-told3 .given .1)
-
-returns-4 : tie.Need-returns-4
-returns-4 c = told (c .before .before) _ (c .enum-told4 .given .1)
-
 pub rises-spec : {M : Type 1} → statement M
 rises-spec =
     tie.close
     (tie.spec
-    compare-requires
-    enum-told
-    enum-told-2
-    enum-told-3
-    enum-told-4
-    returns
-    returns-2
-    returns-3
-    returns-4)
+    (λ c κs. search needs)
+    (λ c. search needs)
+    (λ c. search needs)
+    (λ c. search needs)
+    (λ c. search needs)
+    (λ c. told (c .before .before) _ (c .enum-told .given .1))
+    (λ c. told (c .before .before) _ (c .enum-told2 .given .1))
+    (λ c. told (c .before .before) _ (c .enum-told3 .given .1))
+    (λ c. told (c .before .before) _ (c .enum-told4 .given .1)))

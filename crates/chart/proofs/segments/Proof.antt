@@ -1,19 +1,18 @@
 -- `chart::segments` meets its contract: on a refusal each list is as it was, on success as `fill` leaves it.
 use borrow.Author.Needs.{needs}
 use borrow.Author.Tests.{lt-ltb, le-ltb}
-use mathlib.Core.Path.{_≡_, refl, sym, ap, _∙_}
+use mathlib.Core.Path.{_≡_, refl, ap, _∙_}
 use mathlib.Core.List.{List}
 use Prim.Native.Nat.{ℕ}
 use lib.IntN.{ℤ}
 use lib.Ieee.{Float}
 use Rattle.level.specs.Answer.{Answer, given}
 use Rattle.series.specs.Answer.{refill, on-success, checked}
-use Rattle.checker.specs.Check.{shapeOf}
 use Rattle.series.specs.declared.Checked.{Checked}
+use Rattle.series.proofs.Refusals.{then}
 use Rattle.chart.specs.Drawable.{Drawable}
 use Rattle.chart.specs.Whole.{parts, roomOf, segmentsOf, firstsOf, lastsOf, levelsOf}
-use Rattle.series.proofs.Refusals.{then}
-use Rattle.chart.proofs.DrawableLaws.{shaped-is, passed}
+use Rattle.chart.proofs.DrawableLaws.{answer-is, drawable-if}
 use Rattle.chart.proofs.segments.Statement.{statement}
 use Rattle.chart.proofs.segments.Tie as tie
 
@@ -45,15 +44,12 @@ module _ (c : tie.After-shape) (r : Checked) (e : c .shape .result ≡ r) where
   abbrev s : tie.Start
   s = c .before .before .before .before .before
 
-  told : checked r ≡ shapeOf (s .args .n) (s .args .lengths .now) (s .args .totals .now)
-  told = ap checked (sym e) ∙ c .shape .ensures
-
   drawable : given tt ≡ checked r → Drawable (s .args .lengths .now) (s .args .totals .now)
-  drawable p = passed (s .args .n) (s .args .lengths .now) (s .args .totals .now) (sym (p ∙ told)) .drawable
+  drawable = drawable-if (s .args .n) (s .args .lengths .now) (s .args .totals .now) (c .shape .ensures) e
 
   then-room : {x : Answer (Unit {0})} → x ≡ then (checked r) (roomOf (s .args .lengths .now) (s .args .firsts .now) (s .args .lasts .now) (s .args .levels .now)) →
       Answered (s .args .n) (s .args .lengths .now) (s .args .totals .now) (s .args .firsts .now) (s .args .lasts .now) (s .args .levels .now) x
-  then-room p = answered (s .args .n) (s .args .lengths .now) (s .args .totals .now) (s .args .firsts .now) (s .args .lasts .now) (s .args .levels .now) (p ∙ shaped-is (s .args .n) (s .args .lengths .now) (s .args .totals .now) _ told)
+  then-room p = answered (s .args .n) (s .args .lengths .now) (s .args .totals .now) (s .args .firsts .now) (s .args .lasts .now) (s .args .levels .now) (p ∙ answer-is (s .args .n) (s .args .lengths .now) (s .args .totals .now) (c .shape .ensures) e _)
 
 returns : tie.Need-returns
 returns c = then-room (c .before .before .before) _ (c .before .number .given .1) refl
