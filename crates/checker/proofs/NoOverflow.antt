@@ -19,7 +19,7 @@ use Rattle.optimality.specs.Segments.{between}
 use Rattle.series.specs.Limits.{bad-sample}
 use Rattle.series.specs.Answer.{on-success}
 use Rattle.checker.specs.Walk.{halted, failed, sideOf, openedOf, turnedOf, crossed, enteredOf, advancedOf, minuteOf, Ahead}
-use Rattle.checker.specs.declared.dual_walk.Dual.{Dual}
+use Rattle.checker.specs.declared.dual_walk.Progress.{Progress}
 use Rattle.checker.proofs.SideLaws.{within}
 use Rattle.checker.proofs.ValidLevels.{valid-made, valid-compared}
 
@@ -39,14 +39,14 @@ within-sides L n v e =
     omega (int, opp (pos (n * L)), size v)
 
 -- ---- one minute
-module _ (L : ℕ) (ys : List ℤ) (t : Level) (d : Dual) (n : ℕ) (a : Ahead L ys t d (suc n)) where
+module _ (L : ℕ) (ys : List ℤ) (t : Level) (d : Progress) (n : ℕ) (a : Ahead L ys t d (suc n)) where
   pub ahead-next : minuteOf L ys t d n .stop ≡ 0 → Ahead L ys t (minuteOf L ys t d n) n
   ahead-next = go (bad-sample y) (eqb n 0) (between (sideOf L true (t .length)) (e .v) (sideOf L false (t .length))) refl refl
     where
       y : ℤ
       y = getD ys (d .at) (pos 0)
 
-      e : Dual
+      e : Progress
       e = advancedOf t d y
 
       ok : (0 < n → natAbs (e .v) ≤ t .length * L) → Ahead L ys t e n
@@ -60,8 +60,8 @@ module _ (L : ℕ) (ys : List ℤ) (t : Level) (d : Dual) (n : ℕ) (a : Ahead L
       go false false false p q s = absurd (omega arith)
 
 -- ---- into a segment
-module _ (L : ℕ) (d : Dual) (s t : Level) where
-  abbrev Enters : Dual → Type 0
+module _ (L : ℕ) (d : Progress) (s t : Level) where
+  abbrev Enters : Progress → Type 0
   Enters e = Valid t × (natAbs (e .v) ≤ t .length * L)
 
   opens : (a : Answer Level) → makeOf (t .length) (t .total) ≡ a → let e = on-success a (record { at = d .at; v = pos 0; stop = 0 }) (halted d) in e .stop ≡ 0 → Enters e

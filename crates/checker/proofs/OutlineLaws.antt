@@ -21,7 +21,7 @@ use Rattle.optimality.specs.Segments.{total-length}
 use Rattle.optimality.specs.Plain.{segments}
 use Rattle.series.specs.Search.{found, first-from, place-of}
 use Rattle.checker.specs.Shape.{empty, beyond, equal-levels, equal-from, well-shaped}
-use Rattle.checker.specs.Outline.{paired, noted, added, seventh, nought, over, alike, begin, joined, outlineOf, verdictOf}
+use Rattle.checker.specs.Outline.{paired, noted, added, is-7, is-zero, over, alike, begin, joined, outlineOf, verdictOf}
 use Rattle.checker.specs.Walk.{segment}
 use Rattle.checker.specs.declared.outline.Outline.{Outline}
 use Rattle.series.proofs.SearchLaws.{none-found}
@@ -88,7 +88,7 @@ short (n ∷ ns) (t ∷ ts) i l e h = let f = none-found (eqb n 0) i _ e in let 
 over-is : (t : Level) → 0 < t .length → t .length ≤ 65536 → over t ≡ bad-total t
 over-is t h k = let z : t .length ≡ 0 → ⊥ = λ e. omega arith in rw (ne-eqb _ _ z, le-ltb _ _ k) (go (bad-total t))
   where
-    go : (b : Bool) → seventh (refuse-if b 7 0 (given t)) ≡ b
+    go : (b : Bool) → is-7 (refuse-if b 7 0 (given t)) ≡ b
     go true = refl
     go false = refl
 
@@ -102,29 +102,29 @@ beyonds (n ∷ ns) (t ∷ ts) l s o i =
     ∙ ap (λ b. or (place-of (o .beyond)) (found b (suc i) (first-from beyond (suc (suc i)) (segments ns ts)))) (over-is (level n t) (s .0) (s .1))
 
 -- the levels are then within their limits
-unfoldable pub Fine : List ℕ → List ℤ → Type 0
-Fine [] ts = Unit {0}
-Fine (n ∷ ns) [] = Unit {0}
-Fine (n ∷ ns) (t ∷ ts) = Valid (level n t) × Fine ns ts
+unfoldable pub AllValid : List ℕ → List ℤ → Type 0
+AllValid [] ts = Unit {0}
+AllValid (n ∷ ns) [] = Unit {0}
+AllValid (n ∷ ns) (t ∷ ts) = Valid (level n t) × AllValid ns ts
 
-fine : (ns : List ℕ) (ts : List ℤ) (i : ℕ) → Short ns → first-from beyond i (segments ns ts) ≡ none → Fine ns ts
-unfolding Fine Short first-from segments
-fine [] ts i s e = tt
-fine (n ∷ ns) [] i s e = tt
-fine (n ∷ ns) (t ∷ ts) i s e =
+all-valid : (ns : List ℕ) (ts : List ℤ) (i : ℕ) → Short ns → first-from beyond i (segments ns ts) ≡ none → AllValid ns ts
+unfolding AllValid Short first-from segments
+all-valid [] ts i s e = tt
+all-valid (n ∷ ns) [] i s e = tt
+all-valid (n ∷ ns) (t ∷ ts) i s e =
     let f = none-found (ltb (n * 16777216) (natAbs t)) i _ e in
-    (record { some = s .0; short = s .1; small = ltb-false (n * 16777216) (natAbs t) (f .0) }, fine ns ts (suc i) (s .2) (f .1))
+    (record { some = s .0; short = s .1; small = ltb-false (n * 16777216) (natAbs t) (f .0) }, all-valid ns ts (suc i) (s .2) (f .1))
 
 -- ---- 8
 alike-is : (s t : Level) → Valid s → Valid t → alike s t ≡ equal-levels (segment s) (segment t)
 alike-is s t h k =
-    ⊎-elim (λ (r : (cross s t ⋖ cross t s) × (compareOf s t ≡ given (negsuc 0))). ap nought (r .1) ∙ sym (lower (segment s) (segment t) (r .0)))
-    (⊎-elim (λ (r : (cross s t ≡ cross t s) × (compareOf s t ≡ given (pos 0))). ap nought (r .1) ∙ sym (equal (segment s) (segment t) (r .0)))
-    (λ (r : (cross t s ⋖ cross s t) × (compareOf s t ≡ given (pos 1))). ap nought (r .1) ∙ sym (higher (segment s) (segment t) (r .0))))
+    ⊎-elim (λ (r : (cross s t ⋖ cross t s) × (compareOf s t ≡ given (negsuc 0))). ap is-zero (r .1) ∙ sym (lower (segment s) (segment t) (r .0)))
+    (⊎-elim (λ (r : (cross s t ≡ cross t s) × (compareOf s t ≡ given (pos 0))). ap is-zero (r .1) ∙ sym (equal (segment s) (segment t) (r .0)))
+    (λ (r : (cross t s ⋖ cross s t) × (compareOf s t ≡ given (pos 1))). ap is-zero (r .1) ∙ sym (higher (segment s) (segment t) (r .0))))
     (total s t h k)
 
-equals : (ns : List ℕ) (ts : List ℤ) → length ns ≡ length ts → (o : Outline) (i : ℕ) → Valid (o .last) → Fine ns ts → place-of (outlineOf o (suc i) ns ts .equal) ≡ or (place-of (o .equal)) (equal-from i (segment (o .last) ∷ segments ns ts))
-unfolding outlineOf equal-from segments Fine
+equals : (ns : List ℕ) (ts : List ℤ) → length ns ≡ length ts → (o : Outline) (i : ℕ) → Valid (o .last) → AllValid ns ts → place-of (outlineOf o (suc i) ns ts .equal) ≡ or (place-of (o .equal)) (equal-from i (segment (o .last) ∷ segments ns ts))
+unfolding outlineOf equal-from segments AllValid
 equals [] ts l o i v f = or-none (place-of (o .equal))
 equals (n ∷ ns) [] l o i v f = absurd (omega arith)
 equals (n ∷ ns) (t ∷ ts) l o i v f =
@@ -133,8 +133,8 @@ equals (n ∷ ns) (t ∷ ts) l o i v f =
     ∙ ap (λ b. or (place-of (o .equal)) (found b (suc i) (equal-from (suc i) (segments (n ∷ ns) (t ∷ ts))))) (alike-is (o .last) (level n t) v (f .0))
 
 -- of a whole line: the first segment has no left neighbour
-all-equals : (ns : List ℕ) (ts : List ℤ) → length ns ≡ length ts → Fine ns ts → place-of (outlineOf begin 1 ns ts .equal) ≡ equal-from 1 (segments ns ts)
-unfolding outlineOf equal-from segments Fine or
+all-equals : (ns : List ℕ) (ts : List ℤ) → length ns ≡ length ts → AllValid ns ts → place-of (outlineOf begin 1 ns ts .equal) ≡ equal-from 1 (segments ns ts)
+unfolding outlineOf equal-from segments AllValid or
 all-equals [] ts l f = refl
 all-equals (n ∷ ns) [] l f = absurd (omega arith)
 all-equals (n ∷ ns) (t ∷ ts) l f = equals ns ts (omega arith) (joined begin (level n t) 1) 1 (f .0) (f .1)
@@ -146,7 +146,7 @@ unpaired a b = not-false (eqb a 0 || not (eqb a b))
 module _ (n : ℕ) (ns : List ℕ) (ts : List ℤ) where
   -- what a line that passes has
   pub record Outlined : Type 0 where
-    pub fine : Fine ns ts
+    pub all-valid : AllValid ns ts
     pub long : total-length (segments ns ts) ≡ n
     pub unequal : equal-from 1 (segments ns ts) ≡ none
 
@@ -161,8 +161,8 @@ module _ (n : ℕ) (ns : List ℕ) (ts : List ℤ) where
       let long = eqb-true (total-length (segments ns ts)) n (not-false _ e) in
       let s = short ns ts 1 l z (omega arith) in
       at-same 7 (beyonds ns ts l s begin 0) (λ b.
-      let f = fine ns ts 1 s b in
-      at-same 8 (all-equals ns ts l f) (λ u. k (record { fine = f; long = long; unequal = u }))))))
+      let f = all-valid ns ts 1 s b in
+      at-same 8 (all-equals ns ts l f) (λ u. k (record { all-valid = f; long = long; unequal = u }))))))
 
 -- 6, 7 and 8 do not ask what comes after them
 pub verdict-alike : (n : ℕ) (o : Outline) {A B : Type 0} {x a : Answer A} {y b : Answer B} → Alike x y a b → Alike x y (verdictOf n o a) (verdictOf n o b)

@@ -17,7 +17,7 @@ use Rattle.series.specs.Limits.{bad-sample, in-limits}
 use Rattle.checker.specs.Shape.{well-shaped}
 use Rattle.checker.specs.Check.{checkOf}
 use Rattle.checker.specs.Outline.{paired, outlineOf, verdictOf}
-use Rattle.checker.specs.Walk.{setting-out, stepOf, walkOf, settledOf, concludeOf}
+use Rattle.checker.specs.Walk.{walk-start, stepOf, walkOf, settledOf, concludeOf}
 use Rattle.checker.specs.declared.walk.Walk.{Walk}
 use Rattle.series.proofs.SearchLaws.{none-picked}
 use Rattle.series.proofs.Refusals.{if-same, at-same}
@@ -52,13 +52,13 @@ module _ (ys : List ℤ) (L : ℕ) (ns : List ℕ) (ts : List ℤ) where
   abbrev end : Answer (Unit {0})
   end = refuse-at (first-break (pos L) (pos 0) (pos 0) (plain ys) (segments ns ts)) 9 (given tt)
 
-  pub unpaired-is : paired (length ns) (length ts) ≡ false → concludeOf ys L false setting-out ≡ checkOf ys L ns ts
+  pub unpaired-is : paired (length ns) (length ts) ≡ false → concludeOf ys L false walk-start ≡ checkOf ys L ns ts
   unpaired-is p = series-same ys L (refused 6 0) (well-shaped (length ys) ns ts end) refl (λ few smooth good. rw (unpaired (length ns) (length ts) p))
 
-  pub walk-is : paired (length ns) (length ts) ≡ true → concludeOf ys L true (walkOf L ys setting-out 1 ns ts) ≡ checkOf ys L ns ts
+  pub walk-is : paired (length ns) (length ts) ≡ true → concludeOf ys L true (walkOf L ys walk-start 1 ns ts) ≡ checkOf ys L ns ts
   walk-is p =
-      let w = walkOf L ys setting-out 1 ns ts in
-      series-same ys L (verdictOf (length ys) (w .outline) (settledOf (w .dual))) (well-shaped (length ys) ns ts end) (walk-same L ys ns ts setting-out 1) (λ few smooth good.
-      ap (λ o. verdictOf (length ys) o (settledOf (w .dual))) (outline-is ys L ns ts setting-out 1)
+      let w = walkOf L ys walk-start 1 ns ts in
+      series-same ys L (verdictOf (length ys) (w .outline) (settledOf (w .dual))) (well-shaped (length ys) ns ts end) (walk-same L ys ns ts walk-start 1) (λ few smooth good.
+      ap (λ o. verdictOf (length ys) o (settledOf (w .dual))) (outline-is ys L ns ts walk-start 1)
       ∙ verdict-is (length ys) ns ts few p (settledOf (w .dual)) end (λ s.
       ap (λ o. refuse-at o 9 (given tt)) (walk-breaks L ys (none-picked bad-sample ys 1 good (pos 0)) few smooth ns ts p s)))

@@ -17,28 +17,28 @@ use Rattle.optimality.specs.Segments.{between}
 use Rattle.series.specs.Search.{found, first-from}
 use Rattle.series.specs.Limits.{bad-sample}
 use Rattle.series.specs.Answer.{on-success}
-use Rattle.checker.specs.Walk.{halted, failed, sideOf, openedOf, turnedOf, crossed, enteredOf, advancedOf, minuteOf, unless-stopped, alongOf, aheadOf, followedOf, stepOf, walkOf}
-use Rattle.checker.specs.declared.dual_walk.Dual.{Dual}
+use Rattle.checker.specs.Walk.{halted, failed, sideOf, openedOf, turnedOf, crossed, enteredOf, advancedOf, minuteOf, unless-stopped, alongOf, proceedOf, followedOf, stepOf, walkOf}
+use Rattle.checker.specs.declared.dual_walk.Progress.{Progress}
 use Rattle.checker.specs.declared.walk.Walk.{Walk}
 use Rattle.series.proofs.SearchLaws.{next}
 
 module _ (L : ℕ) (ys : List ℤ) where
   -- the first minute after d with a sample beyond the limits
-  abbrev pub ahead : Dual → Option ℕ
+  abbrev pub ahead : Progress → Option ℕ
   ahead d = first-from bad-sample (suc (d .at)) (drop (d .at) ys)
 
   -- from d to e, over n minutes if the walk goes on
-  pub record Passed (d : Dual) (n : ℕ) (e : Dual) : Type 0 where
+  pub record Passed (d : Progress) (n : ℕ) (e : Progress) : Type 0 where
     pub far : e .stop ≡ 0 → e .at ≡ d .at + n
     pub same : ahead e ≡ ahead d
 
-  minute-passed : (t : Level) (d : Dual) (n : ℕ) → d .at < length ys → Passed d 1 (minuteOf L ys t d n)
+  minute-passed : (t : Level) (d : Progress) (n : ℕ) → d .at < length ys → Passed d 1 (minuteOf L ys t d n)
   minute-passed t d n h = go (bad-sample y) (eqb n 0) (between (sideOf L true (t .length)) (e .v) (sideOf L false (t .length))) refl
     where
       y : ℤ
       y = getD ys (d .at) (pos 0)
 
-      e : Dual
+      e : Progress
       e = advancedOf t d y
 
       on : bad-sample y ≡ false → ahead e ≡ ahead d
@@ -50,7 +50,7 @@ module _ (L : ℕ) (ys : List ℤ) where
       go false false true p = record { far = λ s. omega arith; same = on p }
       go false false false p = record { far = λ s. omega arith; same = on p }
 
-  then-passed : (d m : Dual) (n : ℕ) (e : Dual) → Passed d 1 m → (m .stop ≡ 0 → Passed m n e) → Passed d (suc n) (unless-stopped m e)
+  then-passed : (d m : Progress) (n : ℕ) (e : Progress) → Passed d 1 m → (m .stop ≡ 0 → Passed m n e) → Passed d (suc n) (unless-stopped m e)
   then-passed d m n e p q = go (ltb 0 (m .stop)) refl
     where
       go : (b : Bool) → ltb 0 (m .stop) ≡ b → Passed d (suc n) (cond b m e)
@@ -59,7 +59,7 @@ module _ (L : ℕ) (ys : List ℤ) where
           let z : m .stop ≡ 0 = omega (arith, ltb-false 0 (m .stop) k) in
           record { far = λ s. omega (arith, p .far z, q z .far s); same = q z .same ∙ p .same }
 
-  along-passed : (t : Level) (n : ℕ) (d : Dual) → d .at + n ≤ length ys → Passed d n (alongOf L ys t d n)
+  along-passed : (t : Level) (n : ℕ) (d : Progress) → d .at + n ≤ length ys → Passed d n (alongOf L ys t d n)
   unfolding alongOf
   along-passed t zero d h = record { far = λ s. omega arith; same = refl }
   along-passed t (suc n) d h =
@@ -67,14 +67,14 @@ module _ (L : ℕ) (ys : List ℤ) where
       then-passed d (minuteOf L ys t d n) n (alongOf L ys t (minuteOf L ys t d n) n) p (λ z. along-passed t n (minuteOf L ys t d n) (omega (arith, p .far z)))
 
   -- ---- into a segment no minute is passed
-  turned-at : (rising : Bool) (d : Dual) (s t : Level) → turnedOf L rising d s t .at ≡ d .at
+  turned-at : (rising : Bool) (d : Progress) (s t : Level) → turnedOf L rising d s t .at ≡ d .at
   turned-at rising d s t = go (between (sideOf L rising (s .length)) (d .v) (sideOf L rising (s .length)))
     where
       go : (b : Bool) → (cond b (record { at = d .at; v = sideOf L rising (t .length); stop = 0 }) (failed d)) .at ≡ d .at
       go true = refl
       go false = refl
 
-  entered-at : (d : Dual) (s t : Level) → enteredOf L d s t .at ≡ d .at
+  entered-at : (d : Progress) (s t : Level) → enteredOf L d s t .at ≡ d .at
   entered-at d s t = go (eqb (d .at) 0)
     where
       opened : (a : Answer Level) → (on-success a (record { at = d .at; v = pos 0; stop = 0 }) (halted d)) .at ≡ d .at
@@ -92,7 +92,7 @@ module _ (L : ℕ) (ys : List ℤ) where
       go false = crossing (compareOf s t)
 
   -- ---- and along a line
-  ahead-passed : (t : Level) (e : Dual) → Passed e (t .length) (aheadOf L ys t e)
+  ahead-passed : (t : Level) (e : Progress) → Passed e (t .length) (proceedOf L ys t e)
   ahead-passed t e = go (ltb 0 (e .stop)) (ltb (length ys) (e .at)) (ltb (length ys - e .at) (t .length)) refl refl refl
     where
       go : (a b c : Bool) → ltb 0 (e .stop) ≡ a → ltb (length ys) (e .at) ≡ b → ltb (length ys - e .at) (t .length) ≡ c →
@@ -105,10 +105,10 @@ module _ (L : ℕ) (ys : List ℤ) where
           let k = ltb-false (length ys - e .at) (t .length) q in
           along-passed t (t .length) e (omega arith)
 
-  pub followed-passed : (d : Dual) (s t : Level) → Passed d (t .length) (followedOf L ys d s t)
+  pub followed-passed : (d : Progress) (s t : Level) → Passed d (t .length) (followedOf L ys d s t)
   followed-passed d s t = go (ltb 0 (d .stop)) (ltb 65536 (length ys)) (ltb 1099511627776 L) refl
     where
-      go : (a b c : Bool) → ltb 0 (d .stop) ≡ a → Passed d (t .length) (cond a d (cond b (halted d) (cond c (halted d) (aheadOf L ys t (enteredOf L d s t)))))
+      go : (a b c : Bool) → ltb 0 (d .stop) ≡ a → Passed d (t .length) (cond a d (cond b (halted d) (cond c (halted d) (proceedOf L ys t (enteredOf L d s t)))))
       go true b c o = let k = ltb-true 0 (d .stop) o in record { far = λ s. absurd (omega arith); same = refl }
       go false true c o = record { far = λ s. absurd (omega arith); same = refl }
       go false false true o = record { far = λ s. absurd (omega arith); same = refl }

@@ -21,21 +21,21 @@ noted first hit place = cond (ltb 0 first) first (cond hit place 0)
 abbrev pub added : ℕ → ℕ → ℕ
 added sum length = cond (ltb 65536 sum) sum (sum + length)
 
-abbrev pub seventh : {A : Type 0} → Answer A → Bool
-seventh (refused number place) = eqb number 7
-seventh (given x) = false
+abbrev pub is-7 : {A : Type 0} → Answer A → Bool
+is-7 (refused number place) = eqb number 7
+is-7 (given x) = false
 
 abbrev pub over : Level → Bool
-over t = seventh (makeOf (t .length) (t .total))
+over t = is-7 (makeOf (t .length) (t .total))
 
-abbrev pub nought : Answer ℤ → Bool
-nought (refused number place) = false
-nought (given (pos zero)) = true
-nought (given (pos (suc k))) = false
-nought (given (negsuc k)) = false
+abbrev pub is-zero : Answer ℤ → Bool
+is-zero (refused number place) = false
+is-zero (given (pos zero)) = true
+is-zero (given (pos (suc k))) = false
+is-zero (given (negsuc k)) = false
 
 abbrev pub alike : Level → Level → Bool
-alike s t = nought (compareOf s t)
+alike s t = is-zero (compareOf s t)
 
 abbrev pub begin : Outline
 begin = record { zero = 0; sum = 0; beyond = 0; equal = 0; last = record { length = 0; total = pos 0 } }

@@ -17,7 +17,7 @@ use series::SMOOTHING;
 use series::beyond;
 
 // v is the dual after `at` minutes, times the length of the segment that holds the last of them.
-pub struct Dual {
+pub struct Progress {
     pub at: usize,
     pub v: i64,
     // where the walk stopped, above 0: the first minute that breaks (6) or (7), unless refusal 3, 6, 7 or 8 comes before 9
@@ -25,7 +25,7 @@ pub struct Dual {
 }
 
 // The dual along the segment t after the segment s.
-pub(crate) fn follow(samples: &[i32], smoothing: u64, d: Dual, s: Level, t: Level) -> Dual
+pub(crate) fn follow(samples: &[i32], smoothing: u64, d: Progress, s: Level, t: Level) -> Progress
     ensures { λ r. ⌜ r ≡ followedOf smoothing (now (samples .entry)) d s t ⌝ }
 {
     let n = samples.len();
@@ -51,10 +51,10 @@ pub(crate) fn follow(samples: &[i32], smoothing: u64, d: Dual, s: Level, t: Leve
     along(samples, smoothing, t, e)
 }
 
-fn halt(d: Dual) -> Dual
+fn halt(d: Progress) -> Progress
     ensures { λ r. ⌜ r ≡ halted d ⌝ }
 {
-    Dual {
+    Progress {
         at: d.at,
         v: d.v,
         stop: 1,
@@ -62,7 +62,7 @@ fn halt(d: Dual) -> Dual
 }
 
 // The dual before the segment t: 0 at the start of the line, and -L where the line rises or L where it falls.
-fn enter(smoothing: u64, d: Dual, s: Level, t: Level) -> Dual
+fn enter(smoothing: u64, d: Progress, s: Level, t: Level) -> Progress
     requires { ⌜ smoothing ≤ 1099511627776 ⌝ }
     ensures { λ r. ⌜ r ≡ enteredOf smoothing d s t ⌝ }
 {
@@ -93,11 +93,11 @@ fn rises(s: Level, t: Level) -> bool
     here < there
 }
 
-fn begin(d: Dual, t: Level) -> Dual
+fn begin(d: Progress, t: Level) -> Progress
     ensures { λ r. ⌜ r ≡ openedOf d t ⌝ }
 {
     match Level::new(t.length, t.total) {
-        Made::Valid(_) => Dual {
+        Made::Valid(_) => Progress {
             at: d.at,
             v: 0,
             stop: 0,
@@ -106,7 +106,7 @@ fn begin(d: Dual, t: Level) -> Dual
     }
 }
 
-fn turn(smoothing: u64, rising: bool, d: Dual, s: Level, t: Level) -> Dual
+fn turn(smoothing: u64, rising: bool, d: Progress, s: Level, t: Level) -> Progress
     requires { ⌜ smoothing ≤ 1099511627776 ⌝ }
     requires { ⌜ s .length ≤ 65536 ⌝ }
     requires { ⌜ t .length ≤ 65536 ⌝ }
@@ -119,7 +119,7 @@ fn turn(smoothing: u64, rising: bool, d: Dual, s: Level, t: Level) -> Dual
     if d.v > before {
         return fail(d);
     }
-    Dual {
+    Progress {
         at: d.at,
         v: side(smoothing, rising, t.length),
         stop: 0,
@@ -139,7 +139,7 @@ fn side(smoothing: u64, rising: bool, length: u32) -> i64
     bound
 }
 
-fn along(samples: &[i32], smoothing: u64, t: Level, d: Dual) -> Dual
+fn along(samples: &[i32], smoothing: u64, t: Level, d: Progress) -> Progress
     requires { ⌜ Ahead smoothing (now samples) t d (t .length) ⌝ }
     ensures { λ r. ⌜ r ≡ alongOf smoothing (now (samples .entry)) t d (t .length) ⌝ }
 {
@@ -156,7 +156,7 @@ fn along(samples: &[i32], smoothing: u64, t: Level, d: Dual) -> Dual
 }
 
 // One minute of the segment t, of which `left` come after it. The last one's dual is tested where the next segment or the end is known.
-fn minute(samples: &[i32], smoothing: u64, t: Level, d: Dual, left: u32) -> Dual
+fn minute(samples: &[i32], smoothing: u64, t: Level, d: Progress, left: u32) -> Progress
     requires { ⌜ Ahead smoothing (now samples) t d (suc left) ⌝ }
     ensures { λ r. ⌜ r ≡ minuteOf smoothing (now (samples .entry)) t d left ⌝ }
 {
@@ -173,14 +173,14 @@ fn minute(samples: &[i32], smoothing: u64, t: Level, d: Dual, left: u32) -> Dual
 }
 
 // u[k] = u[k - 1] + y[k] - x[k], times the length.
-fn advance(t: Level, d: Dual, y: i32) -> Dual
+fn advance(t: Level, d: Progress, y: i32) -> Progress
     requires { ⌜ Valid t ⌝ }
     requires { ⌜ natAbs y ≤ 16777216 ⌝ }
     requires { ⌜ natAbs (d .v) ≤ 72057594037927936 ⌝ }
     requires { ⌜ d .at < 18446744073709551615 ⌝ }
     ensures { λ r. ⌜ r ≡ advancedOf t d y ⌝ }
 {
-    Dual {
+    Progress {
         at: d.at + 1,
         v: d.v + (t.length as i64 * y as i64 - t.total),
         stop: 0,
@@ -188,7 +188,7 @@ fn advance(t: Level, d: Dual, y: i32) -> Dual
 }
 
 // Inside a segment the dual lies from -L to L.
-fn hold(smoothing: u64, t: Level, d: Dual) -> Dual
+fn hold(smoothing: u64, t: Level, d: Progress) -> Progress
     requires { ⌜ smoothing ≤ 1099511627776 ⌝ }
     requires { ⌜ t .length ≤ 65536 ⌝ }
     ensures { λ r. ⌜ r ≡ heldOf smoothing t d ⌝ }
@@ -203,10 +203,10 @@ fn hold(smoothing: u64, t: Level, d: Dual) -> Dual
 }
 
 // (6) or (7) is broken at the last minute passed.
-fn fail(d: Dual) -> Dual
+fn fail(d: Progress) -> Progress
     ensures { λ r. ⌜ r ≡ failed d ⌝ }
 {
-    Dual {
+    Progress {
         at: d.at,
         v: d.v,
         stop: d.at,
@@ -214,7 +214,7 @@ fn fail(d: Dual) -> Dual
 }
 
 // 9: the end's dual is 0.
-pub(crate) fn settle(d: Dual) -> Checked
+pub(crate) fn settle(d: Progress) -> Checked
     ensures { λ r. ⌜ checked r ≡ settledOf d ⌝ }
 {
     if d.stop > 0 {

@@ -4,10 +4,10 @@ ghost use mathlib.Core.Path.{_≡_};
 ghost use lib.Dec.{ltb};
 ghost use lib.ListN.{length};
 ghost use Rattle.series.specs.Answer.{checked};
-ghost use Rattle.checker.specs.Walk.{stepOf, setting-out, walkOf, concludeOf};
+ghost use Rattle.checker.specs.Walk.{stepOf, walk-start, walkOf, concludeOf};
 ghost use Rattle.checker.specs.Records.{level-of};
 use super::Segment;
-use super::dual_walk::Dual;
+use super::dual_walk::Progress;
 use super::dual_walk::follow;
 use super::dual_walk::settle;
 use super::outline::Outline;
@@ -21,16 +21,16 @@ use series::first_beyond;
 
 pub struct Walk {
     pub outline: Outline,
-    pub dual: Dual,
+    pub dual: Progress,
 }
 
 pub(crate) fn start() -> Walk
-    ensures { λ r. ⌜ r ≡ setting-out ⌝ }
+    ensures { λ r. ⌜ r ≡ walk-start ⌝ }
 {
     let outline = super::outline::start();
     Walk {
         outline,
-        dual: Dual {
+        dual: Progress {
             at: 0,
             v: 0,
             stop: 0,
@@ -51,7 +51,7 @@ pub(crate) fn step(samples: &[i32], smoothing: u64, w: Walk, t: Level, place: us
 
 pub(crate) fn whole(samples: &[i32], smoothing: u64, lengths: &[u32], totals: &[i64]) -> Walk
     requires { ⌜ length (now lengths) ≡ length (now totals) ⌝ }
-    ensures { λ r. ⌜ r ≡ walkOf smoothing (now (samples .entry)) setting-out 1 (now (lengths .entry)) (now (totals .entry)) ⌝ }
+    ensures { λ r. ⌜ r ≡ walkOf smoothing (now (samples .entry)) walk-start 1 (now (lengths .entry)) (now (totals .entry)) ⌝ }
 {
     let mut w = start();
     let mut k = 0;

@@ -14,9 +14,9 @@ use Rattle.optimality.specs.Plain.{line-lengths, line-totals}
 use Rattle.optimality.specs.Sound.{lines, line-lines}
 use Rattle.series.specs.Answer.{refill}
 use Rattle.optimality.specs.Series.{Limited}
-use Rattle.denoise.specs.Run.{Good, Emits, Stops, dataOf, stateOf, segmentOf, rest}
+use Rattle.denoise.specs.Run.{Good, Emits, Stops, dataOf, stateOf, as-segment, rest}
 use Rattle.denoise.specs.declared.steps.Run.{Run}
-use Rattle.denoise.specs.declared.steps.Piece.{Piece}
+use Rattle.denoise.specs.declared.steps.Span.{Span}
 use Rattle.series.proofs.AnswerLaws.{sets-refill}
 use Rattle.denoise.proofs.RunBounds.{right}
 use Rattle.denoise.proofs.RunSteps.{Goes, begins}
@@ -59,7 +59,7 @@ module _ (ys : List ℤ) (smoothing : ℕ) where
 
   module _ {lengths₀ : List ℕ} {totals₀ : List ℤ} {lengths : List ℕ} {totals : List ℤ} {m : ℕ} {r : Run} (K : Kept lengths₀ totals₀ lengths totals m r) where
     -- a segment more
-    pub kept-turn : (p : Piece) (q : Run) → Emits ys smoothing r p q → Kept lengths₀ totals₀ (set lengths m (p .len)) (set totals m (p .total)) (m + 1) q
+    pub kept-turn : (p : Span) (q : Run) → Emits ys smoothing r p q → Kept lengths₀ totals₀ (set lengths m (p .len)) (set totals m (p .total)) (m + 1) q
     kept-turn p q E = record {
       good = E .good;
       few = omega (arith, K .few, E .further);
@@ -85,11 +85,11 @@ module _ (ys : List ℤ) (smoothing : ℕ) where
     }
 
     -- the last one
-    module _ (p : Piece) (S : Stops ys smoothing r p) where
+    module _ (p : Span) (S : Stops ys smoothing r p) where
       pub count-end : m + 1 ≡ length line
       count-end = omega (arith, K .count, ap length (S .rest))
 
-      end : {A : Type 0} (f : Segment → A) (xs₀ xs : List A) → length ys ≤ length xs₀ → Left f xs₀ xs m r → set xs m (f (segmentOf p)) ≡ refill (map f line) xs₀
+      end : {A : Type 0} (f : Segment → A) (xs₀ xs : List A) → length ys ≤ length xs₀ → Left f xs₀ xs m r → set xs m (f (as-segment p)) ≡ refill (map f line) xs₀
       end f xs₀ xs h L = sym (ap (λ l. sets xs m (map f l)) (S .rest)) ∙ L ∙ sets-refill (map f line) xs₀ (rw (length-map line f) (omega (arith, count-end, K .few, K .short)))
 
       pub lengths-end : length ys ≤ length lengths₀ → set lengths m (p .len) ≡ refill (line-lengths line) lengths₀

@@ -19,9 +19,9 @@ use Rattle.denoise.specs.Run.{dataOf}
 use Rattle.denoise.proofs.RunBounds.{right}
 
 -- from the dual u on, along the minutes ys
-unfoldable pub Tame : ℕ → ℤ → List ℤ → List Segment → Type 0
-Tame b u ys [] = Unit {0}
-Tame b u ys (g ∷ l) = (natAbs u ≤ b) × Tame b (u +ℤ sumZ (take (g .len) ys) -ℤ g .total) (drop (g .len) ys) l
+unfoldable pub StartsWithin : ℕ → ℤ → List ℤ → List Segment → Type 0
+StartsWithin b u ys [] = Unit {0}
+StartsWithin b u ys (g ∷ l) = (natAbs u ≤ b) × StartsWithin b (u +ℤ sumZ (take (g .len) ys) -ℤ g .total) (drop (g .len) ys) l
 
 none-z : (x : ℤ) → x ≡ x +ℤ pos 0
 none-z x = ring (x ∷ []) (search reify depth 20) refl
@@ -59,16 +59,16 @@ module _ (ys : List ℤ) (smoothing : ℕ) where
   ready m c v [] T = tt
   ready m c v (g ∷ l) T = rw (T .met, ← (edge-is d (T .side) m)) (edge-small (T .side))
 
-  tame : (i : ℕ) (z : ℤ) (l : List Segment) → Path d i z l → Ready (R d i -ℤ z) l → Tame smoothing (R d i -ℤ z) (drop i ys) l
-  unfolding Tame Ready Path
-  tame i z [] P h = tt
-  tame i z (g ∷ l) P h = (h, rw (drop-drop (g .len) i ys, ← (dual-next i z g)) (tame (i + g .len) (z +ℤ g .total) l (P .2) (ready (i + g .len) (z +ℤ g .total) _ l (P .1))))
+  starts-within : (i : ℕ) (z : ℤ) (l : List Segment) → Path d i z l → Ready (R d i -ℤ z) l → StartsWithin smoothing (R d i -ℤ z) (drop i ys) l
+  unfolding StartsWithin Ready Path
+  starts-within i z [] P h = tt
+  starts-within i z (g ∷ l) P h = (h, rw (drop-drop (g .len) i ys, ← (dual-next i z g)) (starts-within (i + g .len) (z +ℤ g .total) l (P .2) (ready (i + g .len) (z +ℤ g .total) _ l (P .1))))
 
   first-ready : (l : List Segment) → Ready (pos 0) l
   unfolding Ready
   first-ready [] = tt
   first-ready (g ∷ l) = omega arith
 
-  pub line-tame : Limited ys smoothing → Tame smoothing (pos 0) ys (plain-line (pos smoothing) ys)
+  pub line-starts-within : Limited ys smoothing → StartsWithin smoothing (pos 0) ys (plain-line (pos smoothing) ys)
   unfolding prefix
-  line-tame W = tame 0 (pos 0) (plain-line (pos smoothing) ys) (line-path d (right ys smoothing W)) (first-ready (plain-line (pos smoothing) ys))
+  line-starts-within W = starts-within 0 (pos 0) (plain-line (pos smoothing) ys) (line-path d (right ys smoothing W)) (first-ready (plain-line (pos smoothing) ys))

@@ -15,9 +15,9 @@ use Rattle.optimality.specs.Limits.{Slight}
 use Rattle.optimality.specs.Series.{plain-minute}
 use Rattle.optimality.specs.Segments.{then-v}
 use Rattle.denoise.specs.Dual.{duals-inside}
-use Rattle.denoise.specs.Run.{segmentOf}
-use Rattle.denoise.specs.Trace.{Steady, minuteOf}
-use Rattle.denoise.specs.declared.steps.Piece.{Piece}
+use Rattle.denoise.specs.Run.{as-segment}
+use Rattle.denoise.specs.Trace.{SmallDual, nextOf}
+use Rattle.denoise.specs.declared.steps.Span.{Span}
 use Rattle.denoise.specs.declared.tracing.Dual.{Dual}
 
 pub above-abs : (n : ℤ) → pos 0 ⋖ n → pos (natAbs n) ≡ n
@@ -26,7 +26,7 @@ above-abs n h = omega (int, size n)
 then-z : (v n y t : ℤ) → v +ℤ pos 1 *ℤ (n *ℤ y -ℤ t) ≡ v +ℤ (n *ℤ y -ℤ t)
 then-z v n y t = ring (v ∷ n ∷ y ∷ t ∷ []) (search reify depth 20) refl
 
-module _ (ys : List ℤ) (p : Piece) (end : ℕ) (start : Dual) (out₀ : List ℤ) where
+module _ (ys : List ℤ) (p : Span) (end : ℕ) (start : Dual) (out₀ : List ℤ) where
   -- the minutes from k to the end
   abbrev left : ℕ → List ℤ
   left k = take (end - k) (drop k ys)
@@ -39,13 +39,13 @@ module _ (ys : List ℤ) (p : Piece) (end : ℕ) (start : Dual) (out₀ : List �
     pub v-small : natAbs (d .v) ≤ 72057594037927936 + (d .k - start .k) * 4398046511104
     pub u-small : natAbs (d .u) ≤ 1099511627776 + (d .k - start .k) * 16777216
     pub sums : d .u +ℤ sumZ (left (d .k)) ≡ start .u +ℤ sumZ (left (start .k))
-    pub fills : sets out (d .k) (duals-inside (segmentOf p) (d .v) (left (d .k))) ≡ sets out₀ (start .k) (duals-inside (segmentOf p) (start .v) (left (start .k)))
+    pub fills : sets out (d .k) (duals-inside (as-segment p) (d .v) (left (d .k))) ≡ sets out₀ (start .k) (duals-inside (as-segment p) (start .v) (left (start .k)))
 
   pub filling-first : start .k ≤ end → natAbs (start .v) ≤ 72057594037927936 → natAbs (start .u) ≤ 1099511627776 → Filling out₀ start
   filling-first h v u = record { from = omega arith; upto = h; long = refl; v-small = omega arith; u-small = omega arith; sums = refl; fills = refl }
 
   module _ {out : List ℤ} {d : Dual} (K : Filling out d) where
-    pub steady : end ≤ 65536 → Steady d
+    pub steady : end ≤ 65536 → SmallDual d
     steady h = record { v = record { upto = omega (arith, K .v-small, K .upto) }; u = record { upto = omega (arith, K .u-small, K .upto) } }
 
     -- one minute more
@@ -54,17 +54,17 @@ module _ (ys : List ℤ) (p : Piece) (end : ℕ) (start : Dual) (out₀ : List �
       y = getD ys (d .k) (pos 0)
 
       abbrev next : Dual
-      next = minuteOf ys p d
+      next = nextOf ys p d
 
       one : left (d .k) ≡ y ∷ left (suc (d .k))
       one = let f : end - d .k ≡ suc (end - suc (d .k)) = omega arith in rw (f, drop-cons ys (d .k) (pos 0) (omega arith))
 
-      then-is : then-v (segmentOf p) (d .v) (plain-minute y) ≡ next .v
+      then-is : then-v (as-segment p) (d .v) (plain-minute y) ≡ next .v
       then-is = rw (above-abs (p .n) above) (then-z (d .v) (p .n) y (p .total))
 
-      inside : duals-inside (segmentOf p) (d .v) (left (d .k)) ≡ next .v ∷ duals-inside (segmentOf p) (next .v) (left (suc (d .k)))
+      inside : duals-inside (as-segment p) (d .v) (left (d .k)) ≡ next .v ∷ duals-inside (as-segment p) (next .v) (left (suc (d .k)))
       unfolding duals-inside
-      inside = ap (duals-inside (segmentOf p) (d .v)) one ∙ ap (λ v. v ∷ duals-inside (segmentOf p) v (left (suc (d .k)))) then-is
+      inside = ap (duals-inside (as-segment p) (d .v)) one ∙ ap (λ v. v ∷ duals-inside (as-segment p) v (left (suc (d .k)))) then-is
 
       sum-one : sumZ (left (d .k)) ≡ y +ℤ sumZ (left (suc (d .k)))
       unfolding sumZ
@@ -93,6 +93,6 @@ module _ (ys : List ℤ) (p : Piece) (end : ℕ) (start : Dual) (out₀ : List �
       unfolding sumZ
       sum-end = sym (+ℤ-idr (d .u)) ∙ ap (λ l. d .u +ℤ sumZ l) (sym none) ∙ K .sums
 
-      pub filled : out ≡ sets out₀ (start .k) (duals-inside (segmentOf p) (start .v) (left (start .k)))
+      pub filled : out ≡ sets out₀ (start .k) (duals-inside (as-segment p) (start .v) (left (start .k)))
       unfolding duals-inside
-      filled = ap (λ l. sets out (d .k) (duals-inside (segmentOf p) (d .v) l)) (sym none) ∙ K .fills
+      filled = ap (λ l. sets out (d .k) (duals-inside (as-segment p) (d .v) l)) (sym none) ∙ K .fills

@@ -13,7 +13,7 @@ use Rattle.optimality.specs.Tests.{U′, n′}
 use Rattle.optimality.specs.Tube.{Right, plain-right}
 use Rattle.optimality.specs.Limits as Limits
 use Rattle.optimality.specs.Series.{Limited}
-use Rattle.denoise.specs.Run.{Small, Mid, Good, dataOf, stateOf, aheadOf}
+use Rattle.denoise.specs.Run.{Small, SmallMiddle, Good, dataOf, stateOf, tubeOf}
 use Rattle.denoise.specs.declared.steps.Run.{Run}
 
 module _ (ys : List ℤ) (smoothing : ℕ) (W : Limited ys smoothing) where
@@ -35,14 +35,14 @@ module _ (ys : List ℤ) (smoothing : ℕ) (W : Limited ys smoothing) where
 
     -- one minute further: what `ahead` asks, and what it gives
     module _ (h : r .at .k < length ys) where
-      pub ready : Mid (r .at) × ((smoothing ≤ 1099511627776) × ((r .at .k < length ys) × Upto 16777216 (getD ys (r .at .k) (pos 0))))
+      pub ready : SmallMiddle (r .at) × ((smoothing ≤ 1099511627776) × ((r .at .k < length ys) × Upto 16777216 (getD ys (r .at .k) (pos 0))))
       ready = (record { total = room .U; n = room .n }, (most, (h, Limits.sample-small 16777216 ys (W .samples) (r .at .k) h)))
 
       after : Limits.Small (pos smoothing) ys (more (dataOf ys smoothing) (stateOf r) (U′ (dataOf ys smoothing) (stateOf r)) (n′ (dataOf ys smoothing) (stateOf r)) false false)
       after = Limits.more-small (pos smoothing) ys smooth W (G .sound) (G .small) h false false
 
-      pub low : Small (aheadOf ys smoothing (r .at) .low)
+      pub low : Small (tubeOf ys smoothing (r .at) .low)
       low = after .min
 
-      pub high : Small (aheadOf ys smoothing (r .at) .high)
+      pub high : Small (tubeOf ys smoothing (r .at) .high)
       high = after .max

@@ -14,15 +14,15 @@ use Rattle.optimality.specs.Series.{plain-minute, Limited}
 use Rattle.optimality.specs.Machine.{begin, plain-line}
 use Rattle.series.specs.Answer.{refill}
 use Rattle.denoise.specs.Dual.{duals-inside, duals}
-use Rattle.denoise.specs.Run.{Good, Turns, Emits, Stops, dataOf, stateOf, segmentOf, rest}
-use Rattle.denoise.specs.Trace.{Fills, filledOf, markOf, minutes}
+use Rattle.denoise.specs.Run.{Good, Turns, Emits, Stops, dataOf, stateOf, as-segment, rest}
+use Rattle.denoise.specs.Trace.{Fills, filledOf, endOf, minutes}
 use Rattle.denoise.specs.declared.steps.Run.{Run}
-use Rattle.denoise.specs.declared.steps.Mark.{Mark}
-use Rattle.denoise.specs.declared.steps.Piece.{Piece}
+use Rattle.denoise.specs.declared.steps.Origin.{Origin}
+use Rattle.denoise.specs.declared.steps.Span.{Span}
 use Rattle.denoise.proofs.RunSteps.{Goes, begins}
 use Rattle.series.proofs.AnswerLaws.{sets-refill}
 use Rattle.denoise.proofs.DrawLoop.{whole}
-use Rattle.denoise.proofs.DualBound.{Tame, line-tame}
+use Rattle.denoise.proofs.DualBound.{StartsWithin, line-starts-within}
 
 -- ---- lengths
 inside-long : (g : Segment) (v : ℤ) (ys : List ℤ) → length (duals-inside g v ys) ≡ length ys
@@ -46,40 +46,40 @@ module _ (ys : List ℤ) (smoothing : ℕ) (out₀ : List ℤ) where
   abbrev line : List Segment
   line = plain-line (pos smoothing) ys
 
-  pub record Traced (out : List ℤ) (m : Mark) (r : Run) : Type 0 where
+  pub record Traced (out : List ℤ) (m : Origin) (r : Run) : Type 0 where
     pub good : Good ys smoothing r
     pub at : m .i ≡ r .i
     pub short : r .i < length ys
     pub long : length out ≡ length out₀
-    pub tame : Tame smoothing (m .u) (drop (m .i) ys) (rest ys smoothing r)
+    pub starts-within : StartsWithin smoothing (m .u) (drop (m .i) ys) (rest ys smoothing r)
     pub left : sets out (m .i) (duals (m .u) (drop (m .i) ys) (rest ys smoothing r)) ≡ sets out₀ 0 (duals (pos 0) ys line)
 
   pub traced-first : Limited ys smoothing → (r : Run) → stateOf r ≡ begin (dataOf ys smoothing) 0 (pos 0) → Traced out₀ (record { i = 0; u = pos 0 }) r
   traced-first W r e =
       let i : r .i ≡ 0 = ap (λ s. s .i) e in
       let w = whole ys smoothing W r e in
-      record { good = begins ys smoothing W r 0 (pos 0) (W .some) (omega arith) e; at = sym i; short = omega (arith, W .some); long = refl; tame = rw w (line-tame ys smoothing W); left = rw w }
+      record { good = begins ys smoothing W r 0 (pos 0) (W .some) (omega arith) e; at = sym i; short = omega (arith, W .some); long = refl; starts-within = rw w (line-starts-within ys smoothing W); left = rw w }
 
   -- a minute more
-  pub traced-on : {out : List ℤ} {m : Mark} {r : Run} → Traced out m r → (W : Limited ys smoothing) (q : Run) → Goes ys smoothing W r q → Traced out m q
-  traced-on K W q G = record { good = G .good; at = K .at ∙ sym (G .same); short = rw (G .same) (K .short); long = K .long; tame = rw (G .rest) (K .tame); left = rw (G .rest) (K .left) }
+  pub traced-on : {out : List ℤ} {m : Origin} {r : Run} → Traced out m r → (W : Limited ys smoothing) (q : Run) → Goes ys smoothing W r q → Traced out m q
+  traced-on K W q G = record { good = G .good; at = K .at ∙ sym (G .same); short = rw (G .same) (K .short); long = K .long; starts-within = rw (G .rest) (K .starts-within); left = rw (G .rest) (K .left) }
 
-  module _ (W : Limited ys smoothing) {out : List ℤ} {m : Mark} {r : Run} (K : Traced out m r) (p : Piece) where
+  module _ (W : Limited ys smoothing) {out : List ℤ} {m : Origin} {r : Run} (K : Traced out m r) (p : Span) where
     filled-long : m .i + p .len ≤ length ys → length (filledOf ys m p) ≡ p .len
-    filled-long h = inside-long (segmentOf p) (by-divisor (segmentOf p) (m .u)) (minutes ys m p) ∙ length-take-le (p .len) (drop (m .i) ys) (simp length-drop (omega arith))
+    filled-long h = inside-long (as-segment p) (by-divisor (as-segment p) (m .u)) (minutes ys m p) ∙ length-take-le (p .len) (drop (m .i) ys) (simp length-drop (omega arith))
 
     -- what the dual is before p, and after it
-    module _ {l : List Segment} (e : rest ys smoothing r ≡ segmentOf p ∷ l) where
+    module _ {l : List Segment} (e : rest ys smoothing r ≡ as-segment p ∷ l) where
       before : natAbs (m .u) ≤ smoothing
-      unfolding Tame
-      before = subst (Tame smoothing (m .u) (drop (m .i) ys)) e (K .tame) .0
+      unfolding StartsWithin
+      before = subst (StartsWithin smoothing (m .u) (drop (m .i) ys)) e (K .starts-within) .0
 
-      after : Tame smoothing (markOf ys m p .u) (drop (m .i + p .len) ys) l
-      unfolding Tame
-      after = rw drop-drop at (subst (Tame smoothing (m .u) (drop (m .i) ys)) e (K .tame) .1)
+      after : StartsWithin smoothing (endOf ys m p .u) (drop (m .i + p .len) ys) l
+      unfolding StartsWithin
+      after = rw drop-drop at (subst (StartsWithin smoothing (m .u) (drop (m .i) ys)) e (K .starts-within) .1)
 
       -- the rest is filled in after it
-      opened : m .i + p .len ≤ length ys → sets out (m .i) (duals (m .u) (drop (m .i) ys) (rest ys smoothing r)) ≡ sets (sets out (m .i) (filledOf ys m p)) (m .i + p .len) (duals (markOf ys m p .u) (drop (m .i + p .len) ys) l)
+      opened : m .i + p .len ≤ length ys → sets out (m .i) (duals (m .u) (drop (m .i) ys) (rest ys smoothing r)) ≡ sets (sets out (m .i) (filledOf ys m p)) (m .i + p .len) (duals (endOf ys m p .u) (drop (m .i + p .len) ys) l)
       unfolding duals
       opened h =
           ap (λ l. sets out (m .i) (duals (m .u) (drop (m .i) ys) l)) e
@@ -87,10 +87,10 @@ module _ (ys : List ℤ) (smoothing : ℕ) (out₀ : List ℤ) where
           ∙ rw (filled-long h, drop-drop)
 
     -- p may be filled in
-    fills : {l : List Segment} → rest ys smoothing r ≡ segmentOf p ∷ l → m .i + p .len ≤ length ys → pos 0 ⋖ p .n → Slight (p .total) (p .n) → Fills ys m p
+    fills : {l : List Segment} → rest ys smoothing r ≡ as-segment p ∷ l → m .i + p .len ≤ length ys → pos 0 ⋖ p .n → Slight (p .total) (p .n) → Fills ys m p
     fills e h a b = record { minutes = W .few; samples = sample-small 16777216 ys (W .samples); upto = h; dual = record { upto = omega (arith, before e, W .smooth) }; above = a; small = b }
 
-    pub turn-fills : {k : Mark} → Turns ys smoothing r p k → Fills ys m p
+    pub turn-fills : {k : Origin} → Turns ys smoothing r p k → Fills ys m p
     turn-fills T = fills (T .rest) (omega (arith, K .at, T .long, T .further, T .short)) (T .above) (T .small)
 
     -- a segment more
@@ -101,13 +101,13 @@ module _ (ys : List ℤ) (smoothing : ℕ) (out₀ : List ℤ) where
       pub emit-fills : Fills ys m p
       emit-fills = fills (E .rest) (omega (arith, room, E .short)) (E .above) (E .small)
 
-      pub traced-turn : Traced (sets out (m .i) (filledOf ys m p)) (markOf ys m p) q
+      pub traced-turn : Traced (sets out (m .i) (filledOf ys m p)) (endOf ys m p) q
       traced-turn = record {
         good = E .good;
         at = room;
         short = E .short;
         long = length-sets out (m .i) (filledOf ys m p) ∙ K .long;
-        tame = after (E .rest);
+        starts-within = after (E .rest);
         left = sym (opened (E .rest) (omega (arith, room, E .short))) ∙ K .left;
       }
 

@@ -17,8 +17,8 @@ use Rattle.optimality.specs.Limits as Limits
 use Rattle.denoise.specs.declared.steps.Slope.{Slope}
 use Rattle.denoise.specs.declared.steps.Tube.{Tube}
 use Rattle.denoise.specs.declared.steps.Run.{Run}
-use Rattle.denoise.specs.declared.steps.Mark.{Mark}
-use Rattle.denoise.specs.declared.steps.Piece.{Piece}
+use Rattle.denoise.specs.declared.steps.Origin.{Origin}
+use Rattle.denoise.specs.declared.steps.Span.{Span}
 use Rattle.denoise.specs.declared.steps.Next.{Next}
 use Rattle.denoise.specs.declared.steps.Next.the-variants as Next
 
@@ -28,7 +28,7 @@ abbrev pub Small : Slope → Type 0
 Small s = Slight (s .total) (s .n)
 
 -- as the middle of the tube is
-pub record Mid (s : Slope) : Type 0 where
+pub record SmallMiddle (s : Slope) : Type 0 where
   pub total : Upto 2199023255552 (s .total)
   pub n : Upto 65536 (s .n)
 
@@ -36,8 +36,8 @@ abbrev pub belowOf : Slope → Slope → Bool
 belowOf a b = ltZ (b .n *ℤ a .total) (a .n *ℤ b .total)
 
 -- one minute further
-abbrev pub aheadOf : List ℤ → ℕ → Slope → Tube
-aheadOf ys smoothing s =
+abbrev pub tubeOf : List ℤ → ℕ → Slope → Tube
+tubeOf ys smoothing s =
     let total = s .total +ℤ getD ys (s .k) (pos 0) in
     record {
       at = record { total = total; n = s .n +ℤ pos 1; k = suc (s .k) };
@@ -45,13 +45,13 @@ aheadOf ys smoothing s =
       high = record { total = total +ℤ pos smoothing; n = s .n +ℤ pos 1; k = suc (s .k) };
     }
 
-abbrev pub cutOf : ℕ → Slope → Piece
+abbrev pub cutOf : ℕ → Slope → Span
 cutOf i s = record { len = s .k - i; n = s .n; total = s .total }
 
-abbrev pub fallOf : ℕ → ℕ → Mark
+abbrev pub fallOf : ℕ → ℕ → Origin
 fallOf smoothing k = record { i = k; u = pos smoothing }
 
-abbrev pub riseOf : ℕ → ℕ → Mark
+abbrev pub riseOf : ℕ → ℕ → Origin
 riseOf smoothing k = record { i = k; u = negℤ (pos smoothing) }
 
 -- ---- states and segments
@@ -70,8 +70,8 @@ stateOf r =
       kmax = r .max .k;
     }
 
-abbrev pub segmentOf : Piece → Segment
-segmentOf p = segment (p .len) (p .n) (p .total)
+abbrev pub as-segment : Span → Segment
+as-segment p = segment (p .len) (p .n) (p .total)
 
 module _ (ys : List ℤ) (smoothing : ℕ) where
   abbrev pub dataOf : Increments
@@ -90,7 +90,7 @@ module _ (ys : List ℤ) (smoothing : ℕ) where
   rest r = lines dataOf (stateOf r)
 
   -- the run's next segment is p, and the one after it begins at m
-  pub record Turns (from : Run) (p : Piece) (m : Mark) : Type 0 where
+  pub record Turns (from : Run) (p : Span) (m : Origin) : Type 0 where
     pub further : from .i < m .i
     pub short : m .i < length ys
     pub dual : natAbs (m .u) ≤ smoothing
@@ -98,10 +98,10 @@ module _ (ys : List ℤ) (smoothing : ℕ) where
     pub long : p .len ≡ m .i - from .i
     pub above : pos 0 ⋖ p .n
     pub small : Slight (p .total) (p .n)
-    pub rest : rest from ≡ segmentOf p ∷ lines dataOf (begin dataOf (m .i) (m .u))
+    pub rest : rest from ≡ as-segment p ∷ lines dataOf (begin dataOf (m .i) (m .u))
 
   -- and the one after it is under construction in r
-  pub record Emits (from : Run) (p : Piece) (r : Run) : Type 0 where
+  pub record Emits (from : Run) (p : Span) (r : Run) : Type 0 where
     pub good : Good r
     pub further : from .i < r .i
     pub short : r .i < length ys
@@ -109,14 +109,14 @@ module _ (ys : List ℤ) (smoothing : ℕ) where
     pub long : p .len ≡ r .i - from .i
     pub above : pos 0 ⋖ p .n
     pub small : Slight (p .total) (p .n)
-    pub rest : rest from ≡ segmentOf p ∷ rest r
+    pub rest : rest from ≡ as-segment p ∷ rest r
 
-  pub record Stops (from : Run) (p : Piece) : Type 0 where
+  pub record Stops (from : Run) (p : Span) : Type 0 where
     pub short : from .i < length ys
     pub long : p .len ≡ length ys - from .i
     pub above : pos 0 ⋖ p .n
     pub small : Slight (p .total) (p .n)
-    pub rest : rest from ≡ segmentOf p ∷ []
+    pub rest : rest from ≡ as-segment p ∷ []
 
   abbrev pub Advanced : Run → Next → Type 0
   Advanced from (Next.Emit p r) = Emits from p r

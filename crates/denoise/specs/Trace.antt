@@ -9,20 +9,20 @@ use Rattle.integers.specs.Bounds.{Upto}
 use Rattle.optimality.specs.Limits.{Slight}
 use Rattle.optimality.specs.Segments.{by-divisor}
 use Rattle.denoise.specs.Dual.{duals-inside}
-use Rattle.denoise.specs.Run.{segmentOf}
-use Rattle.denoise.specs.declared.steps.Mark.{Mark}
-use Rattle.denoise.specs.declared.steps.Piece.{Piece}
+use Rattle.denoise.specs.Run.{as-segment}
+use Rattle.denoise.specs.declared.steps.Origin.{Origin}
+use Rattle.denoise.specs.declared.steps.Span.{Span}
 use Rattle.denoise.specs.declared.tracing.Dual.{Dual}
 
 -- so small that one minute more does not overflow
-pub record Steady (d : Dual) : Type 0 where
+pub record SmallDual (d : Dual) : Type 0 where
   pub v : Upto 576460752303423488 (d .v)
   pub u : Upto 4398046511104 (d .u)
 
-abbrev pub minuteOf : List ℤ → Piece → Dual → Dual
-minuteOf ys p d = record { k = suc (d .k); v = d .v +ℤ (p .n *ℤ getD ys (d .k) (pos 0) -ℤ p .total); u = d .u +ℤ getD ys (d .k) (pos 0) }
+abbrev pub nextOf : List ℤ → Span → Dual → Dual
+nextOf ys p d = record { k = suc (d .k); v = d .v +ℤ (p .n *ℤ getD ys (d .k) (pos 0) -ℤ p .total); u = d .u +ℤ getD ys (d .k) (pos 0) }
 
-module _ (ys : List ℤ) (m : Mark) (p : Piece) where
+module _ (ys : List ℤ) (m : Origin) (p : Span) where
   -- the segment p may begin at m
   pub record Fills : Type 0 where
     pub minutes : length ys ≤ 65536
@@ -37,7 +37,7 @@ module _ (ys : List ℤ) (m : Mark) (p : Piece) where
   minutes = take (p .len) (drop (m .i) ys)
 
   abbrev pub filledOf : List ℤ
-  filledOf = duals-inside (segmentOf p) (by-divisor (segmentOf p) (m .u)) minutes
+  filledOf = duals-inside (as-segment p) (by-divisor (as-segment p) (m .u)) minutes
 
-  abbrev pub markOf : Mark
-  markOf = record { i = m .i + p .len; u = m .u +ℤ sumZ minutes -ℤ p .total }
+  abbrev pub endOf : Origin
+  endOf = record { i = m .i + p .len; u = m .u +ℤ sumZ minutes -ℤ p .total }

@@ -9,9 +9,9 @@ ghost use Rattle.optimality.specs.Plain.{line-lengths, line-totals};
 ghost use Rattle.series.specs.Answer.{refill};
 ghost use Rattle.optimality.specs.Series.{Limited};
 use super::steps;
-use super::steps::Mark;
 use super::steps::Next;
-use super::steps::Piece;
+use super::steps::Origin;
+use super::steps::Span;
 
 // The line where nothing is refused.
 pub(crate) fn draw(samples: &[i32], smoothing: u64, lengths: &mut [u32], totals: &mut [i64]) -> u32
@@ -23,7 +23,7 @@ pub(crate) fn draw(samples: &[i32], smoothing: u64, lengths: &mut [u32], totals:
     ensures { λ m. ⌜ now (totals .exit) ≡ refill (line-totals (plain-line (pos smoothing) (now (samples .entry)))) (now (totals .entry)) ⌝ }
 {
     let mut m = 0;
-    let mut r = steps::begin(samples, smoothing, Mark { i: 0, u: 0 });
+    let mut r = steps::begin(samples, smoothing, Origin { i: 0, u: 0 });
     loop {
         // steps 8 to 10
         while r.at.k >= samples.len() {
@@ -44,17 +44,17 @@ pub(crate) fn draw(samples: &[i32], smoothing: u64, lengths: &mut [u32], totals:
         // step 3
         if steps::falls(samples, smoothing, r) {
             let c = steps::fall(samples, smoothing, r);
-            write(c.piece, m, lengths, totals);
+            write(c.span, m, lengths, totals);
             m += 1;
-            r = steps::begin(samples, smoothing, c.mark);
+            r = steps::begin(samples, smoothing, c.origin);
             continue;
         }
         // step 4
         if steps::rises(samples, smoothing, r) {
             let c = steps::rise(samples, smoothing, r);
-            write(c.piece, m, lengths, totals);
+            write(c.span, m, lengths, totals);
             m += 1;
-            r = steps::begin(samples, smoothing, c.mark);
+            r = steps::begin(samples, smoothing, c.origin);
             continue;
         }
         // steps 5 to 7
@@ -63,7 +63,7 @@ pub(crate) fn draw(samples: &[i32], smoothing: u64, lengths: &mut [u32], totals:
 }
 
 // A segment, written at m.
-fn write(p: Piece, m: usize, lengths: &mut [u32], totals: &mut [i64])
+fn write(p: Span, m: usize, lengths: &mut [u32], totals: &mut [i64])
     requires { ⌜ p .len ≤ 65536 ⌝ }
     requires { ⌜ m < length (now lengths) ⌝ }
     requires { ⌜ m < length (now totals) ⌝ }

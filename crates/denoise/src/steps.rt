@@ -9,7 +9,7 @@ ghost use Rattle.integers.specs.Bounds.{Upto};
 ghost use Rattle.optimality.specs.Machine.{begin};
 ghost use Rattle.optimality.specs.Tests.{test3, test4};
 ghost use Rattle.optimality.specs.Series.{Limited};
-ghost use Rattle.denoise.specs.Run.{Small, Mid, belowOf, aheadOf, cutOf, fallOf, riseOf, stateOf, dataOf, moreOf, Good, Turns, Advanced};
+ghost use Rattle.denoise.specs.Run.{Small, SmallMiddle, belowOf, tubeOf, cutOf, fallOf, riseOf, stateOf, dataOf, moreOf, Good, Turns, Advanced};
 
 // The level total / n. It leads from the start of the segment under construction to minute k.
 pub struct Slope {
@@ -34,29 +34,29 @@ pub struct Tube {
     pub high: Slope,
 }
 
-// A minute, and the dual there.
-pub struct Mark {
+// Where a segment begins: after minute i, with the dual u.
+pub struct Origin {
     pub i: usize,
     pub u: i64,
 }
 
 // A segment of the line: len minutes at the level total / n.
-pub struct Piece {
+pub struct Span {
     pub len: usize,
     pub n: i64,
     pub total: i64,
 }
 
-// A segment that ends, and the mark where the next one begins.
+// A segment that ends, and the origin where the next one begins.
 pub struct Ending {
-    pub piece: Piece,
-    pub mark: Mark,
+    pub span: Span,
+    pub origin: Origin,
 }
 
 // A segment that ends where no minute is left: another comes after it, or it is the last.
 pub enum Next {
-    Emit(Piece, Run),
-    Last(Piece),
+    Emit(Span, Run),
+    Last(Span),
 }
 
 // Whether the level a is below the level b.
@@ -70,11 +70,11 @@ fn below(a: Slope, b: Slope) -> bool
 
 // One minute further than s, and the two sides of the tube there.
 fn ahead(samples: &[i32], smoothing: u64, s: Slope) -> Tube
-    requires { ⌜ Mid s ⌝ }
+    requires { ⌜ SmallMiddle s ⌝ }
     requires { ⌜ smoothing ≤ 1099511627776 ⌝ }
     requires { ⌜ s .k < length (now samples) ⌝ }
     requires { ⌜ Upto 16777216 (getD (now samples) (s .k) (pos 0)) ⌝ }
-    ensures { λ r. ⌜ r ≡ aheadOf (now (samples .entry)) smoothing s ⌝ }
+    ensures { λ r. ⌜ r ≡ tubeOf (now (samples .entry)) smoothing s ⌝ }
 {
     let lambda = smoothing as i64;
     let k = s.k;
@@ -95,8 +95,8 @@ fn ahead(samples: &[i32], smoothing: u64, s: Slope) -> Tube
     }
 }
 
-// Step 1, and the restart of the others: a segment begins at a mark.
-pub(crate) fn begin(samples: &[i32], smoothing: u64, m: Mark) -> Run
+// Step 1, and the restart of the others: a segment begins at an origin.
+pub(crate) fn begin(samples: &[i32], smoothing: u64, m: Origin) -> Run
     requires { ⌜ Limited (now samples) smoothing ⌝ }
     requires { ⌜ m .i < length (now samples) ⌝ }
     requires { ⌜ Upto 1099511627776 (m .u) ⌝ }
@@ -119,34 +119,34 @@ pub(crate) fn begin(samples: &[i32], smoothing: u64, m: Mark) -> Run
     }
 }
 
-// The mark where the line falls after minute k.
-fn after_fall(smoothing: u64, k: usize) -> Mark
+// The origin where the line falls after minute k.
+fn after_fall(smoothing: u64, k: usize) -> Origin
     requires { ⌜ smoothing ≤ 1099511627776 ⌝ }
     ensures { λ r. ⌜ r ≡ fallOf smoothing k ⌝ }
 {
-    Mark {
+    Origin {
         i: k,
         u: smoothing as i64,
     }
 }
 
-// The mark where the line rises after minute k.
-fn after_rise(smoothing: u64, k: usize) -> Mark
+// The origin where the line rises after minute k.
+fn after_rise(smoothing: u64, k: usize) -> Origin
     requires { ⌜ smoothing ≤ 1099511627776 ⌝ }
     ensures { λ r. ⌜ r ≡ riseOf smoothing k ⌝ }
 {
-    Mark {
+    Origin {
         i: k,
         u: -(smoothing as i64),
     }
 }
 
 // The segment after minute i to the minute of a slope.
-fn cut(i: usize, s: Slope) -> Piece
+fn cut(i: usize, s: Slope) -> Span
     requires { ⌜ i ≤ s .k ⌝ }
     ensures { λ r. ⌜ r ≡ cutOf i s ⌝ }
 {
-    Piece {
+    Span {
         len: s.k - i,
         n: s.n,
         total: s.total,
@@ -187,12 +187,12 @@ pub(crate) fn fall(samples: &[i32], smoothing: u64, r: Run) -> Ending
     requires { ⌜ Good (now samples) smoothing r ⌝ }
     requires { ⌜ r .at .k < length (now samples) ⌝ }
     requires { ⌜ test3 (dataOf (now samples) smoothing) (stateOf r) ≡ true ⌝ }
-    ensures { λ c. ⌜ Turns (now (samples .entry)) smoothing r (c .piece) (c .mark) ⌝ }
+    ensures { λ c. ⌜ Turns (now (samples .entry)) smoothing r (c .span) (c .origin) ⌝ }
 {
     let min = r.min;
     Ending {
-        piece: cut(r.i, min),
-        mark: after_fall(smoothing, min.k),
+        span: cut(r.i, min),
+        origin: after_fall(smoothing, min.k),
     }
 }
 
@@ -203,12 +203,12 @@ pub(crate) fn rise(samples: &[i32], smoothing: u64, r: Run) -> Ending
     requires { ⌜ r .at .k < length (now samples) ⌝ }
     requires { ⌜ test3 (dataOf (now samples) smoothing) (stateOf r) ≡ false ⌝ }
     requires { ⌜ test4 (dataOf (now samples) smoothing) (stateOf r) ≡ true ⌝ }
-    ensures { λ c. ⌜ Turns (now (samples .entry)) smoothing r (c .piece) (c .mark) ⌝ }
+    ensures { λ c. ⌜ Turns (now (samples .entry)) smoothing r (c .span) (c .origin) ⌝ }
 {
     let max = r.max;
     Ending {
-        piece: cut(r.i, max),
-        mark: after_rise(smoothing, max.k),
+        span: cut(r.i, max),
+        origin: after_rise(smoothing, max.k),
     }
 }
 

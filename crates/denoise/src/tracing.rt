@@ -11,11 +11,11 @@ ghost use Rattle.optimality.specs.Machine.{plain-line};
 ghost use Rattle.series.specs.Answer.{refill};
 ghost use Rattle.denoise.specs.Dual.{duals};
 ghost use Rattle.optimality.specs.Series.{Limited};
-ghost use Rattle.denoise.specs.Trace.{Steady, Fills, minuteOf, filledOf, markOf};
+ghost use Rattle.denoise.specs.Trace.{SmallDual, Fills, nextOf, filledOf, endOf};
 use super::steps;
-use super::steps::Mark;
 use super::steps::Next;
-use super::steps::Piece;
+use super::steps::Origin;
+use super::steps::Span;
 
 // Inside a segment: v is the dual after minute k times the segment's n, and u the dual at the segment's start plus its samples up to k.
 pub struct Dual {
@@ -30,7 +30,7 @@ pub(crate) fn trace(samples: &[i32], smoothing: u64, out: &mut [i64])
     requires { ⌜ length (now samples) ≤ length (now out) ⌝ }
     ensures { λ _. ⌜ now (out .exit) ≡ refill (duals (pos 0) (now (samples .entry)) (plain-line (pos smoothing) (now (samples .entry)))) (now (out .entry)) ⌝ }
 {
-    let mut m = Mark { i: 0, u: 0 };
+    let mut m = Origin { i: 0, u: 0 };
     let mut r = steps::begin(samples, smoothing, m);
     loop {
         // steps 8 to 10
@@ -51,15 +51,15 @@ pub(crate) fn trace(samples: &[i32], smoothing: u64, out: &mut [i64])
         // step 3
         if steps::falls(samples, smoothing, r) {
             let c = steps::fall(samples, smoothing, r);
-            m = fill(samples, m, c.piece, out);
-            r = steps::begin(samples, smoothing, c.mark);
+            m = fill(samples, m, c.span, out);
+            r = steps::begin(samples, smoothing, c.origin);
             continue;
         }
         // step 4
         if steps::rises(samples, smoothing, r) {
             let c = steps::rise(samples, smoothing, r);
-            m = fill(samples, m, c.piece, out);
-            r = steps::begin(samples, smoothing, c.mark);
+            m = fill(samples, m, c.span, out);
+            r = steps::begin(samples, smoothing, c.origin);
             continue;
         }
         // steps 5 to 7
@@ -67,11 +67,11 @@ pub(crate) fn trace(samples: &[i32], smoothing: u64, out: &mut [i64])
     }
 }
 
-// The dual along the segment p that begins at a mark; the mark where it ends.
-fn fill(samples: &[i32], m: Mark, p: Piece, out: &mut [i64]) -> Mark
+// The dual along the segment p that begins at an origin; the origin where it ends.
+fn fill(samples: &[i32], m: Origin, p: Span, out: &mut [i64]) -> Origin
     requires { ⌜ Fills (now samples) m p ⌝ }
     requires { ⌜ length (now samples) ≤ length (now out) ⌝ }
-    ensures { λ r. ⌜ r ≡ markOf (now (samples .entry)) m p ⌝ }
+    ensures { λ r. ⌜ r ≡ endOf (now (samples .entry)) m p ⌝ }
     ensures { λ r. ⌜ now (out .exit) ≡ sets (now (out .entry)) (m .i) (filledOf (now (samples .entry)) m p) ⌝ }
 {
     let end = m.i + p.len;
@@ -86,19 +86,19 @@ fn fill(samples: &[i32], m: Mark, p: Piece, out: &mut [i64]) -> Mark
         let v = d.v;
         out[k] = v;
     }
-    Mark {
+    Origin {
         i: end,
         u: d.u - p.total,
     }
 }
 
 // One minute more: u[k] = u[k - 1] + y[k] - x[k], times n.
-fn minute(samples: &[i32], p: Piece, d: Dual) -> Dual
+fn minute(samples: &[i32], p: Span, d: Dual) -> Dual
     requires { ⌜ Slight (p .total) (p .n) ⌝ }
-    requires { ⌜ Steady d ⌝ }
+    requires { ⌜ SmallDual d ⌝ }
     requires { ⌜ d .k < length (now samples) ⌝ }
     requires { ⌜ Upto 16777216 (getD (now samples) (d .k) (pos 0)) ⌝ }
-    ensures { λ r. ⌜ r ≡ minuteOf (now (samples .entry)) p d ⌝ }
+    ensures { λ r. ⌜ r ≡ nextOf (now (samples .entry)) p d ⌝ }
 {
     let k = d.k;
     let y = samples[k] as i64;

@@ -51,7 +51,7 @@ use denote.Exit.{yes}
 use Rattle.series.specs.Answer.{checked}
 use Rattle.checker.specs.Check.{checkOf}
 use Rattle.checker.specs.Records.{lengths-of, totals-of}
-use Rattle.checker.specs.Walk.{setting-out, concludeOf}
+use Rattle.checker.specs.Walk.{walk-start, concludeOf}
 use Rattle.series.specs.declared.Checked.{Checked}
 use Rattle.checker.specs.declared.Segment.{Segment}
 use Rattle.checker.specs.declared.walk.Walk.{Walk}
@@ -211,7 +211,7 @@ module _ {M : Type 1} (𝓤 : URA M) (H : Heap 𝓤) (A : Atoms 𝓤) (W : Given
         place-fits = record { fits = next-fits k n small (g .0) }
 
     -- the turn that leaves the loop, and the rest of the body
-    ends : (w : Walk) (v : Val) (X : SProp 𝓤) → Is S.the-row w (v ∷ []) → left L ys ss n w ≡ left L ys ss 0 setting-out → ent 𝓤 (⋆ 𝓤 H A (At n v)) (Wp 𝓤 H C Λ En body.turn-1 (afterTurn 𝓤 H X Left))
+    ends : (w : Walk) (v : Val) (X : SProp 𝓤) → Is S.the-row w (v ∷ []) → left L ys ss n w ≡ left L ys ss 0 walk-start → ent 𝓤 (⋆ 𝓤 H A (At n v)) (Wp 𝓤 H C Λ En body.turn-1 (afterTurn 𝓤 H X Left))
     unfolding afterTurn
     ends w v X is h =
         qed W (At n v) ∵ exec ! C Λ En body.turn-1 (anyQ (afterTurn 𝓤 H X Left)) $
@@ -237,9 +237,9 @@ module _ {M : Type 1} (𝓤 : URA M) (H : Heap 𝓤) (A : Atoms 𝓤) (W : Given
 
     -- ---- the loop
     Facts : ℕ → Walk → Val → Type 0
-    Facts k w v = Is S.the-row w (v ∷ []) × (left L ys ss k w ≡ left L ys ss 0 setting-out)
+    Facts k w v = Is S.the-row w (v ∷ []) × (left L ys ss k w ≡ left L ys ss 0 walk-start)
 
-    loops : (w : Walk) (v : Val) → Is S.the-row w (v ∷ []) → w ≡ setting-out → ent 𝓤 (⋆ 𝓤 H A (At 0 v)) (Wp 𝓤 H C Λ En body.t-3 (atReturn 𝓤 H En Post))
+    loops : (w : Walk) (v : Val) → Is S.the-row w (v ∷ []) → w ≡ walk-start → ent 𝓤 (⋆ 𝓤 H A (At 0 v)) (Wp 𝓤 H C Λ En body.t-3 (atReturn 𝓤 H En Post))
     unfolding Facts
     loops w v is e =
         counted 𝓤 H A W 𝓣 En body.turn-1 Left n At Facts
@@ -260,7 +260,7 @@ module _ {M : Type 1} (𝓤 : URA M) (H : Heap 𝓤) (A : Atoms 𝓤) (W : Given
         nothing ! $ nothing ! $ use2 W (raw (Start 𝓤 H A mem run .pre ((tt, tt, tt, tt, tt), tt))) (asked-start 𝓤 H A W mem run) $
         calls-at ! fm (Start 𝓤 H A mem run) (known .start) ((tt, tt, tt, tt, tt), tt) (no-more !) (λ u.
         use1 W (later (some (λ (r : Walk). (‵ ftrue ⊛ ‵ (S.the-row .own r (u ∷ []))) ⊛ raw (ensured 𝓤 H A start.ended (start.clauses 𝓤 H A mem run) tt tt tt r)))) (id⊢ 𝓤 _) $ await ! tt $ pick ! (λ r.
-        split ! $ move ! (1 ∷ []) $ use1 W (raw (fact 𝓤 (r ≡ setting-out))) (said-start 𝓤 H A mem run r) $ heard ! (r ≡ setting-out) (λ e. split ! $ drop ! $
+        split ! $ move ! (1 ∷ []) $ use1 W (raw (fact 𝓤 (r ≡ walk-start))) (said-start 𝓤 H A mem run r) $ heard ! (r ≡ walk-start) (λ e. split ! $ drop ! $
         peeks ! S.the-row (Is S.the-row) (shows 𝓤 H A S.the-row) r (u ∷ []) (λ is.
         land ! (from ! (stop !)) (init ! 13 refl (typed-walk 𝓤 H A W r u is)) $ drop ! $
         assigns ! (of-opd ! (lit ! tt)) (from ! (stop !)) (init ! 10 refl (tt, record { fits = lit< tt })) $

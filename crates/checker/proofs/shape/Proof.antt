@@ -6,7 +6,7 @@ use mathlib.Core.Bool.{true}
 use lib.ListN.{length}
 use Rattle.level.specs.Answer.{given}
 use Rattle.checker.specs.Outline.{paired, verdictOf}
-use Rattle.checker.specs.Walk.{setting-out}
+use Rattle.checker.specs.Walk.{walk-start}
 use Rattle.checker.proofs.OutlineLaws.{unpaired, verdict-is}
 use Rattle.checker.proofs.ShapeLaws.{pair}
 use Rattle.checker.proofs.WalkLaws.{outline-is}
@@ -47,7 +47,7 @@ returns-4 c =
     rw (ne-eqb _ _ (p .before .before .if1 .left), le-ltb _ _ (p .before .if2 .left))
     (c .verdict .ensures
     ∙ ap (λ w. verdictOf (g .n) (w .outline) (given tt)) (c .before .whole .ensures)
-    ∙ ap (λ o. verdictOf (g .n) o (given tt)) (outline-is _ 0 (g .lengths .now) (g .totals .now) setting-out 1)
+    ∙ ap (λ o. verdictOf (g .n) o (given tt)) (outline-is _ 0 (g .lengths .now) (g .totals .now) walk-start 1)
     ∙ verdict-is (g .n) (g .lengths .now) (g .totals .now) (p .before .if2 .left) (two e) (given tt) (given tt) (λ s. refl))
 
 pub shape-spec : {M : Type 1} → statement M

@@ -27,7 +27,7 @@ use denote.Triple.Entry.{Vals, onEntry}
 use denote.Triple.Spec.{tripleOf}
 use Rattle.series.specs.Answer.{checked}
 use Rattle.checker.specs.Records.{level-of}
-use Rattle.checker.specs.Walk.{setting-out, stepOf, concludeOf}
+use Rattle.checker.specs.Walk.{walk-start, stepOf, concludeOf}
 use Rattle.series.specs.declared.Checked.{Checked}
 use Rattle.checker.specs.declared.Segment.{Segment}
 use Rattle.checker.specs.declared.walk.Walk.{Walk}
@@ -79,8 +79,8 @@ module _ {M : Type 1} (𝓤 : URA M) (H : Heap 𝓤) (A : Atoms 𝓤) (mem : Mem
     pub step : Triple 𝓤 (C #step) Step
     pub close : Triple 𝓤 (C #close) Close
 
-  pub said-start : (r : Walk) → ent 𝓤 (ensured 𝓤 H A start.ended (start.clauses 𝓤 H A mem run) tt tt tt r) (fact 𝓤 (r ≡ setting-out))
-  said-start r = exE 𝓤 _ (λ ws. snd∗ 𝓤 (sem 𝓤 H A (lasts start.ended tt tt ws)) (fact 𝓤 (r ≡ setting-out)))
+  pub said-start : (r : Walk) → ent 𝓤 (ensured 𝓤 H A start.ended (start.clauses 𝓤 H A mem run) tt tt tt r) (fact 𝓤 (r ≡ walk-start))
+  said-start r = exE 𝓤 _ (λ ws. snd∗ 𝓤 (sem 𝓤 H A (lasts start.ended tt tt ws)) (fact 𝓤 (r ≡ walk-start)))
 
   pub said-step : (κ : Lft) (x : StepArgs) (r : Walk) → ent 𝓤 (ensured 𝓤 H A step.ended (step.clauses 𝓤 H A mem run) (κ, tt) x tt r) (fact 𝓤 (stepped x r))
   said-step κ x r = exE 𝓤 _ (λ ws. snd∗ 𝓤 (sem 𝓤 H A (lasts step.ended (κ, tt) x ws)) (fact 𝓤 (stepped x r)))

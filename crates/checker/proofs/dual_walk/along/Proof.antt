@@ -3,7 +3,7 @@ use mathlib.Core.Path.{_≡_, refl, _∙_}
 use native.Mathlib.Omega.{arith}
 use Prim.Native.Nat.{ℕ, suc, _-_}
 use borrow.Author.Tests.{lt-ltb, le-ltb}
-use Rattle.checker.specs.declared.dual_walk.Dual.{Dual}
+use Rattle.checker.specs.declared.dual_walk.Progress.{Progress}
 use Rattle.checker.specs.Walk.{unless-stopped, minuteOf, alongOf, Ahead}
 use Rattle.checker.proofs.NoOverflow.{ahead-next}
 use Rattle.checker.proofs.dual_walk.along.Statement.{statement}
@@ -32,7 +32,7 @@ module _ (c : tie.In-loop Inv-loop μ-loop) where
   ahead : Ahead (s .args .smoothing) (s .args .samples .now) (s .args .t) (c .before .loop .e) (suc n)
   ahead = let e : c .before .loop .left ≡ suc n = omega arith in rw e at (c .before .loop .inv .0)
 
-  abbrev m : Dual
+  abbrev m : Progress
   m = minuteOf (s .args .smoothing) (s .args .samples .now) (s .args .t) (c .before .loop .e) n
 
   goes-on : unless-stopped m (alongOf (s .args .smoothing) (s .args .samples .now) (s .args .t) m n) ≡ alongOf (s .args .smoothing) (s .args .samples .now) (s .args .t) (s .args .d) (s .args .t .length)

@@ -3,8 +3,8 @@ use borrow.Author.Needs.{needs}
 use borrow.Author.Tests.{lt-ltb, le-ltb}
 use mathlib.Core.Path.{_≡_, ap, _∙_}
 use native.Mathlib.Omega.{arith}
-use Rattle.checker.specs.declared.dual_walk.Dual.{Dual}
-use Rattle.checker.specs.Walk.{aheadOf, followedOf}
+use Rattle.checker.specs.declared.dual_walk.Progress.{Progress}
+use Rattle.checker.specs.Walk.{proceedOf, followedOf}
 use Rattle.checker.proofs.NoOverflow.{enters}
 use Rattle.checker.proofs.dual_walk.follow.Statement.{statement}
 use Rattle.checker.proofs.dual_walk.follow.Tie as tie
@@ -32,8 +32,8 @@ module _ (c : tie.After-enter) where
   abbrev s : tie.Start
   s = c .before .before .before .before .before
 
-  abbrev ahead : Dual → Dual
-  ahead e = aheadOf (s .args .smoothing) (s .args .samples .now) (s .args .t) e
+  abbrev ahead : Progress → Progress
+  ahead e = proceedOf (s .args .smoothing) (s .args .samples .now) (s .args .t) e
 
   goes : ahead (c .enter .result) ≡ followedOf (s .args .smoothing) (s .args .samples .now) (s .args .d) (s .args .s) (s .args .t)
   goes =

@@ -3,7 +3,7 @@ use borrow.Author.Needs.{needs}
 use mathlib.Core.Path.{_≡_, sym, ap, _∙_}
 use Rattle.level.specs.Answer.{compared}
 use Rattle.level.specs.declared.Compared.{Compared}
-use Rattle.checker.specs.Outline.{nought, alike}
+use Rattle.checker.specs.Outline.{is-zero, alike}
 use Rattle.checker.proofs.outline.alike.Statement.{statement}
 use Rattle.checker.proofs.outline.alike.Tie as tie
 
@@ -23,8 +23,8 @@ enum-told-4 : tie.Need-enum-told-4
 enum-told-4 c = search needs
 
 -- by the outcome r
-told : (c : tie.After-compare) (r : Compared) → c .compare .result ≡ r → nought (compared r) ≡ alike (c .before .args .s) (c .before .args .t)
-told c r e = ap nought (ap compared (sym e) ∙ c .compare .ensures)
+told : (c : tie.After-compare) (r : Compared) → c .compare .result ≡ r → is-zero (compared r) ≡ alike (c .before .args .s) (c .before .args .t)
+told c r e = ap is-zero (ap compared (sym e) ∙ c .compare .ensures)
 
 returns : tie.Need-returns
 returns c = told (c .before .before) _ (c .enum-told .given .1)

@@ -6,7 +6,7 @@ use mir.Val.{SFits}
 use mir.Facts.{toZ-ofZ}
 use Rattle.level.specs.Answer.{made}
 use Rattle.level.specs.declared.Made.{Made}
-use Rattle.checker.specs.Outline.{seventh, over}
+use Rattle.checker.specs.Outline.{is-7, over}
 use Rattle.checker.proofs.outline.over.Statement.{statement}
 use Rattle.checker.proofs.outline.over.Tie as tie
 
@@ -20,10 +20,10 @@ enum-known-number : tie.Need-enum-known-number
 enum-known-number c = search needs
 
 -- by the outcome r
-told : (c : tie.After-new) (r : Made) → c .new .result ≡ r → seventh (made r) ≡ over (c .before .before .args .t)
+told : (c : tie.After-new) (r : Made) → c .new .result ≡ r → is-7 (made r) ≡ over (c .before .before .args .t)
 told c r e =
     let f : SFits w64 (c .before .before .args .t .total) = record { sfits = c .before .struct-told .given .1 .0 .1 } in
-    ap seventh (ap made (sym e) ∙ rw (toZ-ofZ f) at (c .new .ensures))
+    ap is-7 (ap made (sym e) ∙ rw (toZ-ofZ f) at (c .new .ensures))
 
 returns : tie.Need-returns
 returns c = told (c .before .before) _ (c .enum-told .given .1)

@@ -7,12 +7,12 @@ use lib.IntN.{pos}
 use lib.ListN.{length, drop, drop-of-length-le}
 use lib.Seq.{drop-cons}
 use mir.Facts.{toZ-ofZ}
-use Rattle.checker.specs.Walk.{setting-out, walkOf}
+use Rattle.checker.specs.Walk.{walk-start, walkOf}
 use Rattle.checker.proofs.walk.whole.Statement.{statement}
 use Rattle.checker.proofs.walk.whole.Tie as tie
 
 abbrev Inv-loop : tie.InvT-loop
-Inv-loop samples smoothing lengths totals w₀ k₀ w k = (k ≤ length lengths) × (walkOf smoothing samples w (suc k) (drop k lengths) (drop k totals) ≡ walkOf smoothing samples setting-out 1 lengths totals)
+Inv-loop samples smoothing lengths totals w₀ k₀ w k = (k ≤ length lengths) × (walkOf smoothing samples w (suc k) (drop k lengths) (drop k totals) ≡ walkOf smoothing samples walk-start 1 lengths totals)
 
 abbrev μ-loop : tie.MeasureT-loop
 μ-loop samples smoothing lengths totals w₀ k₀ w k = length lengths - k

@@ -11,7 +11,7 @@ use Rattle.optimality.specs.Machine.{on}
 use Rattle.optimality.specs.Tests.{test3}
 use Rattle.optimality.specs.Sound.{left}
 use Rattle.denoise.specs.Run.{Emits, Stops, Advanced, dataOf, stateOf}
-use Rattle.denoise.proofs.RunSteps.{Goes, goes-on, marked, restarts, known, step-on}
+use Rattle.denoise.proofs.RunSteps.{Goes, goes-on, at-origin, restarts, known, step-on}
 use Rattle.denoise.proofs.DrawLoop.{Kept, kept-first, kept-turn, kept-on, count-end, lengths-end, totals-end}
 use Rattle.denoise.proofs.drawing.draw.Statement.{statement}
 use Rattle.denoise.proofs.drawing.draw.Tie as tie
@@ -129,9 +129,9 @@ add-m-2 : tie.Need-add-m-2 Inv-loop2 μ-loop2 Inv-loop μ-loop
 add-m-2 c = omega (arith, few (c .before .before .before .before .before .before .before .before .before .before .before))
 
 begin-requires-2 : tie.Need-begin-requires-2 Inv-loop2 μ-loop2 Inv-loop μ-loop
-begin-requires-2 c κs = let w = c .before .before .before .before .before .before in marked _ _ (w .before .before .before .before .before .before .before .before .before .pre .0) (w .fall .ensures)
+begin-requires-2 c κs = let w = c .before .before .before .before .before .before in at-origin _ _ (w .before .before .before .before .before .before .before .before .before .pre .0) (w .fall .ensures)
 
-after-fall : (c : tie.After-begin2 Inv-loop2 μ-loop2 Inv-loop μ-loop) → let w = c .before .before .before .before .before .before .before in let l = w .before .before .before .before .before in let a = l .before .before .before .before .args in Emits (a .samples .now) (a .smoothing) (l .loop2 .r) (w .fall .result .piece) (c .begin2 .result)
+after-fall : (c : tie.After-begin2 Inv-loop2 μ-loop2 Inv-loop μ-loop) → let w = c .before .before .before .before .before .before .before in let l = w .before .before .before .before .before in let a = l .before .before .before .before .args in Emits (a .samples .now) (a .smoothing) (l .loop2 .r) (w .fall .result .span) (c .begin2 .result)
 after-fall c = let w = c .before .before .before .before .before .before .before in restarts _ _ (w .before .before .before .before .before .before .before .before .before .pre .0) (w .fall .ensures) (c .begin2 .ensures)
 
 loop-less : tie.Need-loop-less Inv-loop2 μ-loop2 Inv-loop μ-loop
@@ -164,9 +164,9 @@ add-m-3 : tie.Need-add-m-3 Inv-loop2 μ-loop2 Inv-loop μ-loop
 add-m-3 c = omega (arith, few (c .before .before .before .before .before .before .before .before .before .before .before .before .before))
 
 begin-requires-3 : tie.Need-begin-requires-3 Inv-loop2 μ-loop2 Inv-loop μ-loop
-begin-requires-3 c κs = let w = c .before .before .before .before .before .before in marked _ _ (w .before .before .before .before .before .before .before .before .before .before .before .pre .0) (w .rise .ensures)
+begin-requires-3 c κs = let w = c .before .before .before .before .before .before in at-origin _ _ (w .before .before .before .before .before .before .before .before .before .before .before .pre .0) (w .rise .ensures)
 
-after-rise : (c : tie.After-begin3 Inv-loop2 μ-loop2 Inv-loop μ-loop) → let w = c .before .before .before .before .before .before .before in let l = w .before .before .before .before .before .before .before in let a = l .before .before .before .before .args in Emits (a .samples .now) (a .smoothing) (l .loop2 .r) (w .rise .result .piece) (c .begin3 .result)
+after-rise : (c : tie.After-begin3 Inv-loop2 μ-loop2 Inv-loop μ-loop) → let w = c .before .before .before .before .before .before .before in let l = w .before .before .before .before .before .before .before in let a = l .before .before .before .before .args in Emits (a .samples .now) (a .smoothing) (l .loop2 .r) (w .rise .result .span) (c .begin3 .result)
 after-rise c = let w = c .before .before .before .before .before .before .before in restarts _ _ (w .before .before .before .before .before .before .before .before .before .before .before .pre .0) (w .rise .ensures) (c .begin3 .ensures)
 
 loop-less-2 : tie.Need-loop-less-2 Inv-loop2 μ-loop2 Inv-loop μ-loop

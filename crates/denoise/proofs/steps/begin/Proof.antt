@@ -6,7 +6,7 @@ use mir.Syntax.{w64}
 use mir.Val.{toZ, ofZ}
 use Rattle.optimality.specs.Limits.{sample-small}
 use Rattle.integers.specs.Bounds.{cleaning, clean}
-use Rattle.denoise.specs.Run.{aheadOf}
+use Rattle.denoise.specs.Run.{tubeOf}
 use Rattle.denoise.proofs.RunBounds.{most}
 use Rattle.denoise.proofs.steps.begin.Statement.{statement}
 use Rattle.denoise.proofs.steps.begin.Tie as tie
@@ -25,7 +25,7 @@ returns : tie.Need-returns
 returns c =
     let w = c .before .before .before in
     let s = w .before .before in
-    rw (w .ahead .ensures ∙ ap (λ u. aheadOf (s .args .samples .now) (s .args .smoothing) (record { total = u; n = pos 0; k = s .args .m .i })) (dual s))
+    rw (w .ahead .ensures ∙ ap (λ u. tubeOf (s .args .samples .now) (s .args .smoothing) (record { total = u; n = pos 0; k = s .args .m .i })) (dual s))
 
 pub begin-spec : {M : Type 1} → statement M
 begin-spec = tie.close (tie.spec ahead-requires returns)

@@ -6,7 +6,7 @@ use mathlib.Core.List.{List}
 use Prim.Native.Nat.{ℕ}
 use lib.IntN.{ℤ}
 use Rattle.optimality.specs.Machine.{State, pick}
-use Rattle.denoise.specs.Run.{stateOf, belowOf, aheadOf, moreOf}
+use Rattle.denoise.specs.Run.{stateOf, belowOf, tubeOf, moreOf}
 use Rattle.denoise.specs.declared.steps.Tube.{Tube}
 use Rattle.denoise.specs.declared.steps.Slope.{Slope}
 use Rattle.denoise.specs.declared.steps.Run.{Run}
@@ -49,10 +49,10 @@ abbrev upper : Run → Tube → Bool → Run
 upper q t c = record { i = q .i; at = q .at; min = q .min; max = pick c (q .max) (t .high) }
 
 told : (ys : List ℤ) (smoothing : ℕ) (r : Run) (t : Tube) (b c : Bool) →
-    t ≡ aheadOf ys smoothing (r .at) → b ≡ belowOf (t .low) (r .min) → c ≡ belowOf (r .max) (t .high) →
+    t ≡ tubeOf ys smoothing (r .at) → b ≡ belowOf (t .low) (r .min) → c ≡ belowOf (r .max) (t .high) →
     stateOf (upper (lower r t b) t c) ≡ moreOf ys smoothing r
 told ys smoothing r t b c e f g =
-    let a = aheadOf ys smoothing (r .at) in
+    let a = tubeOf ys smoothing (r .at) in
     rw (f, g, e) (picked (r .i) (a .at) (r .min) (r .max) (a .low) (a .high) (belowOf (a .low) (r .min)) (belowOf (r .max) (a .high)))
 
 ahead-requires : tie.Need-ahead-requires

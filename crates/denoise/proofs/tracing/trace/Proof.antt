@@ -12,7 +12,7 @@ use Rattle.optimality.specs.Machine.{on}
 use Rattle.optimality.specs.Tests.{test3}
 use Rattle.optimality.specs.Sound.{left}
 use Rattle.denoise.specs.Run.{Emits, Stops, Advanced, dataOf, stateOf}
-use Rattle.denoise.proofs.RunSteps.{Goes, goes-on, marked, restarts, known, step-on}
+use Rattle.denoise.proofs.RunSteps.{Goes, goes-on, at-origin, restarts, known, step-on}
 use Rattle.denoise.proofs.TraceLoop.{Traced, traced-first, traced-turn, traced-on, traced-end, turn-fills, emit-fills, stop-fills}
 use Rattle.denoise.proofs.tracing.trace.Statement.{statement}
 use Rattle.denoise.proofs.tracing.trace.Tie as tie
@@ -109,9 +109,9 @@ fill-requires-3 : tie.Need-fill-requires-3 Inv-loop2 μ-loop2 Inv-loop μ-loop
 fill-requires-3 c κs = let w = c .before in let l = w .before .before .before .before .before in (turn-fills _ _ _ (l .before .before .before .pre .0) (kept l) _ (w .fall .ensures), room l)
 
 begin-requires-2 : tie.Need-begin-requires-2 Inv-loop2 μ-loop2 Inv-loop μ-loop
-begin-requires-2 c κs = let w = c .before .before .before in marked _ _ (w .before .before .before .before .before .before .before .before .pre .0) (w .fall .ensures)
+begin-requires-2 c κs = let w = c .before .before .before in at-origin _ _ (w .before .before .before .before .before .before .before .before .pre .0) (w .fall .ensures)
 
-after-fall : (c : tie.After-begin2 Inv-loop2 μ-loop2 Inv-loop μ-loop) → let w = c .before .before .before .before in let l = w .before .before .before .before .before in let a = l .before .before .before .args in Emits (a .samples .now) (a .smoothing) (l .loop2 .r) (w .fall .result .piece) (c .begin2 .result)
+after-fall : (c : tie.After-begin2 Inv-loop2 μ-loop2 Inv-loop μ-loop) → let w = c .before .before .before .before in let l = w .before .before .before .before .before in let a = l .before .before .before .args in Emits (a .samples .now) (a .smoothing) (l .loop2 .r) (w .fall .result .span) (c .begin2 .result)
 after-fall c = let w = c .before .before .before .before in restarts _ _ (w .before .before .before .before .before .before .before .before .pre .0) (w .fall .ensures) (c .begin2 .ensures)
 
 loop-less : tie.Need-loop-less Inv-loop2 μ-loop2 Inv-loop μ-loop
@@ -141,9 +141,9 @@ fill-requires-4 : tie.Need-fill-requires-4 Inv-loop2 μ-loop2 Inv-loop μ-loop
 fill-requires-4 c κs = let w = c .before in let l = w .before .before .before .before .before .before .before in (turn-fills _ _ _ (l .before .before .before .pre .0) (kept l) _ (w .rise .ensures), room l)
 
 begin-requires-3 : tie.Need-begin-requires-3 Inv-loop2 μ-loop2 Inv-loop μ-loop
-begin-requires-3 c κs = let w = c .before .before .before in marked _ _ (w .before .before .before .before .before .before .before .before .before .before .pre .0) (w .rise .ensures)
+begin-requires-3 c κs = let w = c .before .before .before in at-origin _ _ (w .before .before .before .before .before .before .before .before .before .before .pre .0) (w .rise .ensures)
 
-after-rise : (c : tie.After-begin3 Inv-loop2 μ-loop2 Inv-loop μ-loop) → let w = c .before .before .before .before in let l = w .before .before .before .before .before .before .before in let a = l .before .before .before .args in Emits (a .samples .now) (a .smoothing) (l .loop2 .r) (w .rise .result .piece) (c .begin3 .result)
+after-rise : (c : tie.After-begin3 Inv-loop2 μ-loop2 Inv-loop μ-loop) → let w = c .before .before .before .before in let l = w .before .before .before .before .before .before .before in let a = l .before .before .before .args in Emits (a .samples .now) (a .smoothing) (l .loop2 .r) (w .rise .result .span) (c .begin3 .result)
 after-rise c = let w = c .before .before .before .before in restarts _ _ (w .before .before .before .before .before .before .before .before .before .before .pre .0) (w .rise .ensures) (c .begin3 .ensures)
 
 loop-less-2 : tie.Need-loop-less-2 Inv-loop2 μ-loop2 Inv-loop μ-loop
