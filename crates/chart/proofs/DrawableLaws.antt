@@ -20,7 +20,7 @@ use Rattle.checker.specs.Shape.{well-shaped}
 use Rattle.checker.specs.Check.{shapeOf}
 use Rattle.checker.proofs.ShapeLaws.{Shaped, lists-past, lists-alike}
 use Rattle.chart.specs.Drawable.{sum, nth, Drawable}
-use Rattle.chart.proofs.Sums.{sum-next, sum-part}
+use Rattle.chart.proofs.SumLaws.{sum-next, sum-part}
 
 -- what the shape of a line lets through, by the answer x to it
 pub shaped-is : {A : Type 0} (n : ℕ) (ns : List ℕ) (ts : List ℤ) (y : Answer A) {x : Answer (Unit {0})} → x ≡ shapeOf n ns ts → then x y ≡ refuse-if (eqb n 0) 1 0 (refuse-if (ltb 65536 n) 2 0 (well-shaped n ns ts y))

@@ -1,7 +1,7 @@
 -- What the proofs of `chart` rest on, and the laws of its definitions.
-pub mod Sums
-pub mod Found
+pub mod SumLaws
+pub mod LookupLaws
 pub mod DrawableLaws
-pub mod Listed
-pub mod Laws
+pub mod FillLoop
+pub mod ChartLaws
 pub mod PlaceLaws

@@ -1,4 +1,4 @@
--- How a line's shape is told segment by segment. Shaped.antt of proofs/ has that this is `well-shaped`.
+-- How a line's shape is told segment by segment. OutlineLaws.antt of proofs/ has that this is `well-shaped`.
 use mathlib.Core.Bool.{Bool, true, false, not, cond, _||_}
 use mathlib.Core.List.{List, [], _∷_}
 use Prim.Native.Nat.{ℕ, zero, suc, _+_}

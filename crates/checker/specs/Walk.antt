@@ -1,4 +1,4 @@
--- How the dual of a line is told along it, beside the line's outline. Followed.antt of proofs/ has that the place where it stops is `first-break`.
+-- How the dual of a line is told along it, beside the line's outline. BreakLaws.antt of proofs/ has that the place where it stops is `first-break`.
 use mathlib.Core.Bool.{Bool, true, false, not, cond}
 use mathlib.Core.List.{List, [], _∷_}
 use mathlib.Core.Option.{Option, none, some}

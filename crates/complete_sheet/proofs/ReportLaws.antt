@@ -16,13 +16,13 @@ use Rattle.optimality.specs.Plain.{segments, length-plain}
 use Rattle.level.specs.Answer.{Answer, refused, given, refuse-if}
 use Rattle.series.specs.Answer.{passing}
 use Rattle.series.proofs.Refusals.{passed, stopped}
-use Rattle.sheet.specs.Answer.{fields}
-use Rattle.sheet.specs.Format.{minutes, segment-count, smoothing, samples, lengths, totals, read-sample, read-length}
-use Rattle.sheet.specs.HeadLaws.{length-as-in-table}
-use Rattle.sheet.specs.ListLaws.{length-records}
+use Rattle.layout.specs.Answer.{fields}
+use Rattle.layout.specs.Format.{minutes, segment-count, smoothing, samples, lengths, totals, read-sample, read-length}
+use Rattle.layout.specs.HeadLaws.{length-as-in-table}
+use Rattle.layout.specs.ListLaws.{length-records}
 use Rattle.sheet.specs.Read.{accepted, readOf}
 use Rattle.sheet.specs.Complete.{completeOf, completedAfter}
-use Rattle.sheet.specs.declared.Fields.{Fields}
+use Rattle.layout.specs.declared.Fields.{Fields}
 use Rattle.sheet.proofs.SheetRefusals.{accepted-alike}
 use Rattle.sheet.proofs.ReadLaws.{in-order, own-lists}
 use Rattle.sheet.proofs.CompleteLaws.{Completed}

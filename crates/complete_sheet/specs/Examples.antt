@@ -9,7 +9,7 @@ use Rattle.text.specs.Decimal.{digits, decimal, signedDecimal}
 use Rattle.codec.specs.Place.{bytesAt}
 use Rattle.codec.specs.LittleEndian.{decode, encode, signed, unsigned, getUnsigned}
 use Rattle.series.specs.Search.{first-from}
-use Rattle.sheet.specs.Format.{records, header, sample-bytes, segment-bytes, sheet-bytes}
+use Rattle.layout.specs.Format.{records, header, sample-bytes, segment-bytes, sheet-bytes}
 use Rattle.complete_sheet.specs.Report.{heading, row, rows, line-text, refusal, answer-text, reportOf}
 
 -- the samples (0, 10), L = 1, no line

@@ -9,9 +9,9 @@ use Rattle.optimality.specs.Plain.{line-lengths, line-totals}
 use Rattle.optimality.specs.Machine.{plain-line}
 use Rattle.level.specs.Answer.{Answer, refused, given}
 use Rattle.text.specs.Decimal.{decimal, signedDecimal}
-use Rattle.sheet.specs.Format.{samples}
+use Rattle.layout.specs.Format.{samples}
 use Rattle.sheet.specs.Read.{readOf}
-use Rattle.sheet.specs.declared.Fields.{Fields}
+use Rattle.layout.specs.declared.Fields.{Fields}
 
 -- ---- the words, each with the spaces about it
 -- "minutes "

@@ -14,8 +14,8 @@ ghost use Rattle.io.specs.Counts.{Counts};
 ghost use Rattle.complete_sheet.specs.Ready.{Ready};
 ghost use Rattle.complete_sheet.specs.Report.{row, rows, heading, line-text, line-shown, refusal, answer-text, reportOf};
 use denoise::Drawn;
-use sheet::Fields;
-use sheet::Reading;
+use layout::Fields;
+use layout::Reading;
 
 // Bytes as they are, from at on. The result is the place after them.
 fn put_bytes(out: &mut [u8], at: usize, text: &[u8]) -> usize

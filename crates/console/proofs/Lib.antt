@@ -1,3 +1,3 @@
 -- What the functions' proofs share.
-pub mod Rooms
-pub mod Told
+pub mod ReadingLaws
+pub mod ToldPlaces

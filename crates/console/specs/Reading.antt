@@ -8,10 +8,10 @@ use lib.ListN.{length}
 use lib.IntN.{ℤ}
 use Rattle.level.specs.Answer.{Answer, given, refuse-if}
 use Rattle.series.specs.Answer.{refill, on-success}
-use Rattle.sheet.specs.Answer.{fields}
-use Rattle.sheet.specs.Format.{minutes, segment-count, samples, lengths, totals}
+use Rattle.layout.specs.Answer.{fields}
+use Rattle.layout.specs.Format.{minutes, segment-count, samples, lengths, totals}
 use Rattle.sheet.specs.Read.{accepted}
-use Rattle.sheet.specs.declared.Fields.{Fields}
+use Rattle.layout.specs.declared.Fields.{Fields}
 
 abbrev pub three : Fields → List ℕ
 three f = f .minutes ∷ f .segments ∷ f .smoothing ∷ []

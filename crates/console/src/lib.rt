@@ -20,10 +20,10 @@ ghost use Rattle.console.specs.Mark.{room, kindOf, levelsAfter};
 ghost use Rattle.console.specs.Reading.{three, readingOf, samplesRead, lengthsRead, totalsRead, fieldsRead};
 use chart::Mark;
 use denoise::Drawn;
+use layout::Fields;
+use layout::Reading;
 use series::Checked;
 use series::Filled;
-use sheet::Fields;
-use sheet::Reading;
 use sheet::Written;
 
 // Minus (256 times the place, plus the number).

@@ -24,15 +24,15 @@ use Rattle.series.proofs.OptimalityLaws.{line-meets, meets-line, line-least}
 use Rattle.checker.proofs.CheckLaws.{passes-line↔}
 use Rattle.series.proofs.Refusals.{Alike, pass, passed}
 use Rattle.series.proofs.LimitsLaws.{limits-alike}
-use Rattle.sheet.specs.Format.{smoothing, samples, lengths, totals, filed-line, size}
-use Rattle.sheet.specs.HeadLaws.{InOrder}
-use Rattle.sheet.specs.HeadLaws as HeadLaws
-use Rattle.sheet.specs.ListLaws.{length-records}
+use Rattle.layout.specs.Format.{smoothing, samples, lengths, totals, filed-line, size}
+use Rattle.layout.specs.HeadLaws.{InOrder}
+use Rattle.layout.specs.HeadLaws as HeadLaws
+use Rattle.layout.specs.ListLaws.{length-records}
 use Rattle.sheet.specs.Read.{unless, filed, accepted}
 use Rattle.sheet.specs.Complete.{completed, finishOf, completeOf, completedAfter}
 use Rattle.sheet.proofs.SheetRefusals.{tested-alike}
 use Rattle.sheet.proofs.AcceptedLists.{line-few}
-use Rattle.sheet.proofs.SheetOf.{has-room, line-is, as-lists, within-limits, samples-of, smoothing-of, lengths-of, totals-of, length-of, accepts}
+use Rattle.sheet.proofs.WrittenSheet.{has-room, line-is, as-lists, within-limits, samples-of, smoothing-of, lengths-of, totals-of, length-of, accepts}
 
 -- ---- the lists with the line of their series are accepted
 module _ (ys : List ℤ) (L : ℕ) (ok : Limited ys L) where

@@ -12,9 +12,9 @@ use Rattle.optimality.specs.Machine.{plain-line}
 use Rattle.level.specs.Answer.{Answer}
 use Rattle.series.proofs.PlaceLaws.{Placed, unrefused, nothing, if-placed, at-placed, found-upto, limits-placed}
 use Rattle.checker.proofs.PlaceLaws.{meets-placed}
-use Rattle.sheet.specs.Format.{minutes, segment-count, smoothing, read-length, line-offset, samples, lengths, totals, size}
-use Rattle.sheet.specs.Head.{well-headed}
-use Rattle.sheet.specs.ListLaws.{length-records}
+use Rattle.layout.specs.Format.{minutes, segment-count, smoothing, read-length, line-offset, samples, lengths, totals, size}
+use Rattle.layout.specs.Head.{well-headed}
+use Rattle.layout.specs.ListLaws.{length-records}
 use Rattle.sheet.specs.Read.{unless, filed, accepted, readOf}
 use Rattle.sheet.specs.Write.{room, writeOf}
 use Rattle.sheet.specs.Complete.{completeOf}

@@ -17,16 +17,16 @@ use Rattle.series.specs.Answer.{refill, on-success, passing}
 use Rattle.series.specs.Optimality.{Meets}
 use Rattle.series.proofs.OptimalityLaws.{line-meets, meets-line}
 use Rattle.series.proofs.Refusals.{never, if-past, same-given, passed}
-use Rattle.sheet.specs.Answer.{fields}
-use Rattle.sheet.specs.Format.{minutes, segment-count, smoothing, samples, lengths, totals, read-sample, read-length, read-total}
-use Rattle.sheet.specs.HeadLaws.{InOrder, or-false}
-use Rattle.sheet.specs.HeadLaws as HeadLaws
-use Rattle.sheet.specs.ListLaws.{length-records}
+use Rattle.layout.specs.Answer.{fields}
+use Rattle.layout.specs.Format.{minutes, segment-count, smoothing, samples, lengths, totals, read-sample, read-length, read-total}
+use Rattle.layout.specs.HeadLaws.{InOrder, or-false}
+use Rattle.layout.specs.HeadLaws as HeadLaws
+use Rattle.layout.specs.ListLaws.{length-records}
 use Rattle.sheet.specs.Read.{filed, accepted, readOf, samplesAfter, lengthsAfter, totalsAfter}
-use Rattle.sheet.specs.declared.Fields.{Fields}
+use Rattle.layout.specs.declared.Fields.{Fields}
 use Rattle.sheet.proofs.SheetRefusals.{accepted-alike}
 use Rattle.sheet.proofs.AcceptedLists.{Accepted, accepted-lists}
-use Rattle.sheet.proofs.SheetOf.{line-is, as-lists, within-limits}
+use Rattle.sheet.proofs.WrittenSheet.{line-is, as-lists, within-limits}
 
 -- ---- a sheet that is accepted
 module _ (s : List ℕ) (a : accepted s passing ≡ passing) where

@@ -14,17 +14,17 @@ use Rattle.level.specs.Answer.{given}
 use Rattle.series.specs.Limits.{in-limits}
 use Rattle.series.specs.Answer.{refill, passing}
 use Rattle.series.proofs.Refusals.{passed}
-use Rattle.sheet.specs.Format.{minutes, segment-count, smoothing, samples, lengths, totals, size, sheet-bytes, read-sample, read-length}
-use Rattle.sheet.specs.HeadLaws.{none-wrong}
-use Rattle.sheet.specs.ListLaws.{length-records}
-use Rattle.sheet.specs.SheetLaws.{sheet-of-read}
-use Rattle.sheet.specs.Answer.{fields}
+use Rattle.layout.specs.Format.{minutes, segment-count, smoothing, samples, lengths, totals, size, sheet-bytes, read-sample, read-length}
+use Rattle.layout.specs.HeadLaws.{none-wrong}
+use Rattle.layout.specs.ListLaws.{length-records}
+use Rattle.layout.specs.SheetLaws.{sheet-of-read}
+use Rattle.layout.specs.Answer.{fields}
 use Rattle.sheet.specs.Read.{filed, accepted, with-room, readOf, samplesAfter, lengthsAfter, totalsAfter}
 use Rattle.sheet.specs.Write.{room, writeOf, writtenAfter}
 use Rattle.sheet.specs.Complete.{completed, finishOf, completeOf, completedAfter}
-use Rattle.sheet.specs.declared.Fields.{Fields}
+use Rattle.layout.specs.declared.Fields.{Fields}
 use Rattle.sheet.proofs.SheetRefusals.{tested-alike, accepted-alike}
-use Rattle.sheet.proofs.SheetOf.{has-room, samples-of, smoothing-of, lengths-of, totals-of, length-of, accepts}
+use Rattle.sheet.proofs.WrittenSheet.{has-room, samples-of, smoothing-of, lengths-of, totals-of, length-of, accepts}
 use Rattle.sheet.proofs.ReadLaws.{in-order, lists-accepted, own-lists, passes, found, samples-read, lengths-read, totals-read}
 use Rattle.sheet.proofs.CompleteLaws.{Completed, completes, sized, bytes-count}
 

@@ -13,8 +13,8 @@ use Rattle.series.specs.Limits.{in-limits}
 use Rattle.series.proofs.Refusals.{Alike, pass, if-alike, at-alike}
 use Rattle.series.proofs.LimitsLaws.{limits-alike}
 use Rattle.checker.proofs.ShapeLaws.{lists-alike}
-use Rattle.sheet.specs.Format.{minutes, segment-count, smoothing, samples, lengths, totals}
-use Rattle.sheet.specs.Head.{wrong-field, well-headed}
+use Rattle.layout.specs.Format.{minutes, segment-count, smoothing, samples, lengths, totals}
+use Rattle.layout.specs.Head.{wrong-field, well-headed}
 use Rattle.sheet.specs.Read.{unless, filed, accepted}
 
 module _ {A B : Type 0} {x : Answer A} {y : Answer B} where

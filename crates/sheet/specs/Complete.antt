@@ -10,7 +10,7 @@ use Rattle.optimality.specs.Plain as Plain
 use Rattle.optimality.specs.Machine.{plain-line}
 use Rattle.level.specs.Answer.{Answer, given}
 use Rattle.series.specs.Answer.{refill, on-success}
-use Rattle.sheet.specs.Format.{smoothing, samples, size, sheet-bytes}
+use Rattle.layout.specs.Format.{smoothing, samples, size, sheet-bytes}
 use Rattle.sheet.specs.Read.{accepted}
 use Rattle.sheet.specs.Write.{room}
 

@@ -9,10 +9,10 @@ use Rattle.level.specs.Answer.{Answer, given, refuse-if}
 use Rattle.series.specs.Limits.{in-limits}
 use Rattle.series.specs.Answer.{refill, on-success}
 use Rattle.checker.specs.Check.{meets-conditions}
-use Rattle.sheet.specs.Format.{smoothing, samples, lengths, totals}
-use Rattle.sheet.specs.Head.{well-headed}
-use Rattle.sheet.specs.Answer.{fields}
-use Rattle.sheet.specs.declared.Fields.{Fields}
+use Rattle.layout.specs.Format.{smoothing, samples, lengths, totals}
+use Rattle.layout.specs.Head.{well-headed}
+use Rattle.layout.specs.Answer.{fields}
+use Rattle.layout.specs.declared.Fields.{Fields}
 
 -- two empty line lists mean that no line is filed; else 6 to 9 are tested; then the rest
 abbrev pub unless : {A : Type 0} → Bool → Answer A → Answer A → Answer A

@@ -7,7 +7,7 @@ use lib.IntN.{ℤ}
 use Rattle.level.specs.Answer.{Answer, refused, given, refuse-if}
 use Rattle.series.specs.Limits.{in-limits}
 use Rattle.series.specs.Answer.{refill, on-success}
-use Rattle.sheet.specs.Format.{size, sheet-bytes}
+use Rattle.layout.specs.Format.{size, sheet-bytes}
 use Rattle.sheet.specs.Read.{filed}
 use Rattle.sheet.specs.declared.Written.{Written}
 use Rattle.sheet.specs.declared.Written.the-variants as Written

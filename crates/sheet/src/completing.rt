@@ -7,17 +7,18 @@ ghost use Rattle.optimality.specs.Machine.{plain-line};
 ghost use Rattle.level.specs.Answer.{given, when-given};
 ghost use Rattle.series.specs.Limits.{in-limits};
 ghost use Rattle.denoise.specs.Line.{drawn};
-ghost use Rattle.sheet.specs.Answer.{fields};
-ghost use Rattle.sheet.specs.HeadLaws.{InOrder};
+ghost use Rattle.layout.specs.Answer.{fields};
+ghost use Rattle.layout.specs.HeadLaws.{InOrder};
 ghost use Rattle.sheet.specs.Read.{filed};
 ghost use Rattle.sheet.specs.Write.{written};
 ghost use Rattle.sheet.specs.Complete.{completeOf, completedAfter, Has};
 use super::DAY;
-use super::Fields;
 use super::Written;
-use super::loading;
+use super::checking;
 use super::writer;
 use denoise::Drawn;
+use layout::Fields;
+use layout::inner::decode;
 use series::Checked;
 use series::MINUTES;
 
@@ -65,7 +66,7 @@ fn complete_lists(
     ensures { λ r. ⌜ written r ≡ completeOf (now (sheet .entry)) (now (out .entry)) ⌝ }
     ensures { λ r. ⌜ now (out .exit) ≡ completedAfter (now (sheet .entry)) (now (out .entry)) ⌝ }
 {
-    loading::decode(sheet, f, ys, ns, ts);
+    decode(sheet, f, ys, ns, ts);
     let n = f.minutes as usize;
     match line(f, &ys[..n], ns, ts) {
         Drawn::Refused(number, place) => Written::Refused(number, place),
@@ -89,7 +90,7 @@ fn line(f: Fields, ys: &[i32], ns: &mut [u32], ts: &mut [i64]) -> Drawn
         return denoise::line(ys, f.smoothing, ns, ts);
     }
     let m = f.segments as usize;
-    match loading::check_filed(ys, f.smoothing, &ns[..m], &ts[..m]) {
+    match checking::check_filed(ys, f.smoothing, &ns[..m], &ts[..m]) {
         Checked::Refused(number, place) => Drawn::Refused(number, place),
         Checked::Passed => Drawn::Segments(f.segments),
     }

@@ -5,37 +5,23 @@ ghost use lib.ListN.{take};
 ghost use Rattle.optimality.specs.Plain.{segments};
 ghost use Rattle.level.specs.Answer.{when-given};
 ghost use Rattle.series.specs.Optimality.{Meets, Only, Least};
-ghost use Rattle.sheet.specs.Answer.{headed};
-ghost use Rattle.sheet.specs.Format.{smoothing, samples, lengths, totals, filed-line};
+ghost use Rattle.layout.specs.Answer.{headed};
+ghost use Rattle.layout.specs.Format.{smoothing, samples, lengths, totals, filed-line};
 ghost use Rattle.sheet.specs.Read.{readOf, samplesAfter, lengthsAfter, totalsAfter};
 ghost use Rattle.sheet.specs.Write.{written, writeOf, writtenAfter};
 ghost use Rattle.sheet.specs.Complete.{completeOf, completedAfter};
+use layout::Reading;
+use layout::header;
+use series::Checked;
 
+mod checking;
 mod completing;
-mod header;
 mod lists;
-mod loading;
-mod numbers;
 mod reader;
 mod writer;
 
-use series::Checked;
-
 // The minutes of a day: a sheet of no more is read and completed in little memory.
 pub(crate) const DAY: usize = 1_440;
-
-// What a sheet's header says: N, M and the smoothing L.
-pub struct Fields {
-    pub minutes: u32,
-    pub segments: u32,
-    pub smoothing: u64,
-}
-
-// A refusal has a number and a place (RULES 4.3).
-pub enum Reading {
-    Valid(Fields),
-    Refused(u32, usize),
-}
 
 // The number of bytes written.
 pub enum Written {
@@ -73,7 +59,7 @@ pub fn write(
     ensures answer { λ r. ⌜ written r ≡ writeOf (now (samples .entry)) smoothing (now (lengths .entry)) (now (totals .entry)) (now (out .entry)) ⌝ }
     ensures out { λ r. ⌜ now (out .exit) ≡ writtenAfter (now (samples .entry)) smoothing (now (lengths .entry)) (now (totals .entry)) (now (out .entry)) ⌝ }
 {
-    match loading::check_filed(samples, smoothing, lengths, totals) {
+    match checking::check_filed(samples, smoothing, lengths, totals) {
         Checked::Refused(number, place) => Written::Refused(number, place),
         Checked::Passed => writer::put_sheet(samples, smoothing, lengths, totals, out),
     }

@@ -4,14 +4,15 @@ ghost use Prim.Native.Nat.{_≤_};
 ghost use lib.ListN.{length};
 ghost use Rattle.series.specs.Limits.{in-limits};
 ghost use Rattle.series.specs.Answer.{refill, on-success};
-ghost use Rattle.sheet.specs.Answer.{fields, headed};
-ghost use Rattle.sheet.specs.HeadLaws.{InOrder};
+ghost use Rattle.layout.specs.Answer.{fields, headed};
+ghost use Rattle.layout.specs.HeadLaws.{InOrder};
 ghost use Rattle.sheet.specs.Read.{filed, with-room, readOf, samplesAfter, lengthsAfter, totalsAfter};
 use super::DAY;
-use super::Fields;
-use super::Reading;
+use super::checking;
 use super::lists;
-use super::loading;
+use layout::Fields;
+use layout::Reading;
+use layout::inner::decode;
 use series::Checked;
 use series::MINUTES;
 
@@ -97,7 +98,7 @@ fn read_lists(
     ensures { λ r. ⌜ now (lengths .exit) ≡ lengthsAfter (now (sheet .entry)) (now (samples .entry)) (now (lengths .entry)) (now (totals .entry)) ⌝ }
     ensures { λ r. ⌜ now (totals .exit) ≡ totalsAfter (now (sheet .entry)) (now (samples .entry)) (now (lengths .entry)) (now (totals .entry)) ⌝ }
 {
-    loading::decode(sheet, f, ys, ns, ts);
+    decode(sheet, f, ys, ns, ts);
     let n = f.minutes as usize;
     let m = f.segments as usize;
     fill(f, &ys[..n], &ns[..m], &ts[..m], samples, lengths, totals)
@@ -122,7 +123,7 @@ fn fill(
     ensures { λ r. ⌜ now (lengths .exit) ≡ on-success (headed r) (refill (now (ns .entry)) (now (lengths .entry))) (now (lengths .entry)) ⌝ }
     ensures { λ r. ⌜ now (totals .exit) ≡ on-success (headed r) (refill (now (ts .entry)) (now (totals .entry))) (now (totals .entry)) ⌝ }
 {
-    match loading::check_filed(ys, f.smoothing, ns, ts) {
+    match checking::check_filed(ys, f.smoothing, ns, ts) {
         Checked::Refused(number, place) => {
             return Reading::Refused(number, place);
         }

@@ -1,14 +1,12 @@
 // Writing a sheet whose lists are accepted.
 ghost use mathlib.Core.Path.{_≡_};
-ghost use mathlib.Core.List.{_++_};
 ghost use Prim.Native.Nat.{_≤_};
-ghost use lib.ListN.{length, drop};
+ghost use lib.ListN.{length};
 ghost use Rattle.series.specs.Answer.{refill, on-success};
-ghost use Rattle.sheet.specs.Format.{size, sheet-bytes};
+ghost use Rattle.layout.specs.Format.{size, sheet-bytes};
 ghost use Rattle.sheet.specs.Write.{written, room};
 use super::Written;
-use super::header;
-use super::lists;
+use layout::inner::encode;
 
 // 5, or the sheet that holds these lists.
 pub(crate) fn put_sheet(
@@ -30,20 +28,4 @@ pub(crate) fn put_sheet(
     }
     encode(samples, smoothing, lengths, totals, out);
     Written::Bytes(bytes)
-}
-
-// The sheet that holds these lists, at the start of `out`; the bytes past it stay.
-fn encode(samples: &[i32], smoothing: u64, lengths: &[u32], totals: &[i64], out: &mut [u8])
-    requires { ⌜ length (now samples) ≤ 65536 ⌝ }
-    requires { ⌜ length (now lengths) ≤ 65536 ⌝ }
-    requires { ⌜ length (now lengths) ≡ length (now totals) ⌝ }
-    requires { ⌜ size (length (now samples)) (length (now lengths)) ≤ length (now out) ⌝ }
-    ensures { λ _. ⌜ now (out .exit) ≡ sheet-bytes (now (samples .entry)) smoothing (now (lengths .entry)) (now (totals .entry))
-        ++ drop (size (length (now (samples .entry))) (length (now (lengths .entry)))) (now (out .entry)) ⌝ }
-{
-    let n = samples.len();
-    let m = lengths.len();
-    header::write_header(out, n as u32, m as u32, smoothing);
-    lists::write_samples(samples, out, 32);
-    lists::write_segments(lengths, totals, out, 32 + 4 * n);
 }

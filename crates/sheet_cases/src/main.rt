@@ -3,12 +3,12 @@
 
 ghost use mathlib.Core.Path.{_≡_};
 ghost use Prim.Native.Nat.{_<_};
+use layout::Fields;
+use layout::Reading;
 use printing::put;
 use printing::put_refusal;
 use printing::put_signed;
 use printing::put_unsigned;
-use sheet::Fields;
-use sheet::Reading;
 use sheet::Written;
 
 mod vectors;

@@ -6,7 +6,7 @@ use Prim.Native.Nat.{_-_, _<_, _≤_}
 use lib.ListN.{length, getD, drop, drop-of-length-le}
 use Rattle.level.specs.declared.Level.{Level}
 use Rattle.chart.specs.Chart.{mark-at, or-13}
-use Rattle.chart.proofs.Found.{mark-0, mark-inside, mark-end, mark-beyond}
+use Rattle.chart.proofs.LookupLaws.{mark-0, mark-inside, mark-end, mark-beyond}
 use Rattle.chart.proofs.find_mark.Statement.{statement}
 use Rattle.chart.proofs.find_mark.Tie as tie
 

@@ -6,8 +6,8 @@ use Prim.Native.Nat.{suc, _-_, _+_, _≤_}
 use lib.ListN.{length}
 use Rattle.chart.specs.Drawable.{sum}
 use Rattle.chart.specs.Chart.{segment-at}
-use Rattle.chart.proofs.Sums.{sum-next, sum-part}
-use Rattle.chart.proofs.Found.{segment-found, segment-lacks}
+use Rattle.chart.proofs.SumLaws.{sum-next, sum-part}
+use Rattle.chart.proofs.LookupLaws.{segment-found, segment-lacks}
 use Rattle.chart.proofs.find_segment.Statement.{statement}
 use Rattle.chart.proofs.find_segment.Tie as tie
 

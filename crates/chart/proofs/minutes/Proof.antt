@@ -5,7 +5,7 @@ use native.Mathlib.Omega.{arith}
 use Prim.Native.Nat.{_-_, _+_, _≤_}
 use lib.ListN.{getD, take}
 use Rattle.chart.specs.Drawable.{sum}
-use Rattle.chart.proofs.Sums.{sum-next, sum-part}
+use Rattle.chart.proofs.SumLaws.{sum-next, sum-part}
 use Rattle.chart.proofs.minutes.Statement.{statement}
 use Rattle.chart.proofs.minutes.Tie as tie
 

@@ -5,10 +5,10 @@ use native.Mathlib.Omega.{arith}
 use lib.ListN.{take}
 use lib.Seq.{length-take-le}
 use Rattle.level.specs.Answer.{given}
-use Rattle.sheet.specs.Answer.{headed}
+use Rattle.layout.specs.Answer.{headed}
 use Rattle.sheet.specs.Read.{readOf}
-use Rattle.complete_sheet.proofs.Readings.{room-read, samples-read, ready-read}
-use Rattle.complete_sheet.proofs.Shown.{refused-shown, given-shown}
+use Rattle.complete_sheet.proofs.ReadyLists.{room-read, samples-read, ready-read}
+use Rattle.complete_sheet.proofs.ShownLaws.{refused-shown, given-shown}
 use Rattle.complete_sheet.proofs.answer.Statement.{statement}
 use Rattle.complete_sheet.proofs.answer.Tie as tie
 

@@ -4,7 +4,7 @@ use mathlib.Core.Path.{sym}
 use native.Mathlib.Omega.{arith}
 use lib.Seq.{length-take-le}
 use Rattle.sheet.proofs.AcceptedLists.{line-few}
-use Rattle.complete_sheet.proofs.Shown.{shown}
+use Rattle.complete_sheet.proofs.ShownLaws.{shown}
 use Rattle.complete_sheet.proofs.finish.Statement.{statement}
 use Rattle.complete_sheet.proofs.finish.Tie as tie
 

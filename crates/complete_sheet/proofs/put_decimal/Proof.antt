@@ -1,7 +1,7 @@
 -- `complete_sheet::put_decimal` meets its contract: the characters, then the bytes that they are.
 use borrow.Author.Needs.{needs}
 use Rattle.text.specs.Decimal.{decimal}
-use Rattle.complete_sheet.proofs.Texts.{copied}
+use Rattle.complete_sheet.proofs.OutputParts.{copied}
 use Rattle.complete_sheet.proofs.put_decimal.Statement.{statement}
 use Rattle.complete_sheet.proofs.put_decimal.Tie as tie
 

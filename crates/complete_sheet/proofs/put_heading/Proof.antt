@@ -1,7 +1,7 @@
 -- `complete_sheet::put_heading` meets its contract.
 use borrow.Author.Needs.{needs}
 use native.Mathlib.Omega.{arith}
-use Rattle.complete_sheet.proofs.Texts.{put-heading}
+use Rattle.complete_sheet.proofs.OutputParts.{put-heading}
 use Rattle.complete_sheet.proofs.put_heading.Statement.{statement}
 use Rattle.complete_sheet.proofs.put_heading.Tie as tie
 

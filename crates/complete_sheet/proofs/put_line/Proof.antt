@@ -1,6 +1,6 @@
 -- `complete_sheet::put_line` meets its contract.
 use borrow.Author.Needs.{needs}
-use Rattle.complete_sheet.proofs.Texts.{put-line}
+use Rattle.complete_sheet.proofs.OutputParts.{put-line}
 use Rattle.complete_sheet.proofs.put_line.Statement.{statement}
 use Rattle.complete_sheet.proofs.put_line.Tie as tie
 

@@ -1,7 +1,7 @@
 -- `complete_sheet::put_refusal` meets its contract.
 use borrow.Author.Needs.{needs}
 use native.Mathlib.Omega.{arith}
-use Rattle.complete_sheet.proofs.Texts.{put-refusal}
+use Rattle.complete_sheet.proofs.OutputParts.{put-refusal}
 use Rattle.complete_sheet.proofs.put_refusal.Statement.{statement}
 use Rattle.complete_sheet.proofs.put_refusal.Tie as tie
 

@@ -4,7 +4,7 @@ use native.Mathlib.Omega.{arith}
 use mir.Syntax.{w64}
 use mir.Val.{SFits}
 use mir.Facts.{toZ-ofZ}
-use Rattle.complete_sheet.proofs.Texts.{put-row}
+use Rattle.complete_sheet.proofs.OutputParts.{put-row}
 use Rattle.complete_sheet.proofs.put_row.Statement.{statement}
 use Rattle.complete_sheet.proofs.put_row.Tie as tie
 

@@ -5,7 +5,7 @@ use borrow.Author.Needs.{sfits-of}
 use lib.ListN.{length, getD}
 use mir.Syntax.{w64}
 use mir.Facts.{toZ-ofZ}
-use Rattle.complete_sheet.proofs.Rows.{Turns, nothing, one-more, whole, kept}
+use Rattle.complete_sheet.proofs.RowLoop.{Turns, nothing, one-more, whole, kept}
 use Rattle.complete_sheet.proofs.put_rows.Statement.{statement}
 use Rattle.complete_sheet.proofs.put_rows.Tie as tie
 

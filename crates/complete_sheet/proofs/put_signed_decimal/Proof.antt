@@ -3,7 +3,7 @@ use borrow.Author.Needs.{needs}
 use mir.Syntax.{w64}
 use mir.Facts.{toZ-ofZ}
 use Rattle.text.specs.Decimal.{signedDecimal}
-use Rattle.complete_sheet.proofs.Texts.{copied}
+use Rattle.complete_sheet.proofs.OutputParts.{copied}
 use Rattle.complete_sheet.proofs.put_signed_decimal.Statement.{statement}
 use Rattle.complete_sheet.proofs.put_signed_decimal.Tie as tie
 

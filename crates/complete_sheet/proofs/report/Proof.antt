@@ -1,7 +1,7 @@
 -- `complete_sheet::report` meets its contract.
 use borrow.Author.Needs.{needs}
 use mathlib.Core.Path.{refl}
-use Rattle.complete_sheet.proofs.Shown.{long-shown, short-shown}
+use Rattle.complete_sheet.proofs.ShownLaws.{long-shown, short-shown}
 use Rattle.complete_sheet.proofs.report.Statement.{statement}
 use Rattle.complete_sheet.proofs.report.Tie as tie
 

@@ -15,7 +15,7 @@ use Rattle.chart.specs.declared.Mark.{Mark}
 use Rattle.chart.proofs.PlaceLaws.{mark-placed}
 use Rattle.console.specs.Code.{code, farthest, told}
 use Rattle.console.specs.Mark.{kindOf, levelsAfter}
-use Rattle.console.proofs.Told.{plainly}
+use Rattle.console.proofs.ToldPlaces.{plainly}
 use Rattle.console.proofs.dawhikura_chart_mark.Statement.{statement}
 use Rattle.console.proofs.dawhikura_chart_mark.Tie as tie
 

@@ -13,7 +13,7 @@ use Rattle.series.specs.Answer.{filled}
 use Rattle.chart.specs.Whole.{segmentsOf}
 use Rattle.chart.proofs.PlaceLaws.{segments-placed}
 use Rattle.console.specs.Code.{code-of-all, farthest, told}
-use Rattle.console.proofs.Told.{plainly}
+use Rattle.console.proofs.ToldPlaces.{plainly}
 use Rattle.console.proofs.dawhikura_chart_segments.Statement.{statement}
 use Rattle.console.proofs.dawhikura_chart_segments.Tie as tie
 

@@ -9,7 +9,7 @@ use Rattle.series.specs.Answer.{checked}
 use Rattle.checker.specs.Check.{checkOf}
 use Rattle.checker.proofs.PlaceLaws.{check-placed}
 use Rattle.console.specs.Code.{code-of-none, told}
-use Rattle.console.proofs.Told.{plainly}
+use Rattle.console.proofs.ToldPlaces.{plainly}
 use Rattle.console.proofs.dawhikura_series_check.Statement.{statement}
 use Rattle.console.proofs.dawhikura_series_check.Tie as tie
 

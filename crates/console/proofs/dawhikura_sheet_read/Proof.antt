@@ -11,14 +11,14 @@ use mir.Facts.{toZ-ofZ}
 use Rattle.level.specs.Answer.{Answer, refused, given}
 use Rattle.series.specs.Answer.{refill, on-success}
 use Rattle.series.proofs.PlaceLaws.{place-most}
-use Rattle.sheet.specs.Answer.{headed, fields}
-use Rattle.sheet.specs.Format.{segment-count}
+use Rattle.layout.specs.Answer.{headed, fields}
+use Rattle.layout.specs.Format.{segment-count}
 use Rattle.sheet.specs.Read.{accepted, readOf}
-use Rattle.sheet.specs.declared.Fields.{Fields}
+use Rattle.layout.specs.declared.Fields.{Fields}
 use Rattle.sheet.proofs.PlaceLaws.{read-placed}
 use Rattle.console.specs.Code.{code}
 use Rattle.console.specs.Reading.{three, readingOf, samplesRead, lengthsRead, totalsRead}
-use Rattle.console.proofs.Rooms.{few-fields, few-kept, read-refused, read-given, read-lists}
+use Rattle.console.proofs.ReadingLaws.{few-fields, few-kept, read-refused, read-given, read-lists}
 use Rattle.console.proofs.dawhikura_sheet_read.Statement.{statement}
 use Rattle.console.proofs.dawhikura_sheet_read.Tie as tie
 

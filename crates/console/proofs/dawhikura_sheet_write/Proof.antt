@@ -15,10 +15,10 @@ use Rattle.series.proofs.Refusals.{passed}
 use Rattle.sheet.specs.Write.{written, writeOf, writtenAfter}
 use Rattle.sheet.proofs.SheetRefusals.{tested-alike}
 use Rattle.sheet.proofs.AcceptedLists.{accepted-lists}
-use Rattle.sheet.proofs.SheetOf.{has-room}
+use Rattle.sheet.proofs.WrittenSheet.{has-room}
 use Rattle.sheet.proofs.PlaceLaws.{write-placed}
 use Rattle.console.specs.Code.{code, farthest, told}
-use Rattle.console.proofs.Told.{plainly}
+use Rattle.console.proofs.ToldPlaces.{plainly}
 use Rattle.console.proofs.dawhikura_sheet_write.Statement.{statement}
 use Rattle.console.proofs.dawhikura_sheet_write.Tie as tie
 

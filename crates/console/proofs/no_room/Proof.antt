@@ -8,11 +8,11 @@ use mir.Syntax.{w64}
 use mir.Val.{SFits}
 use mir.Facts.{toZ-ofZ}
 use Rattle.series.proofs.PlaceLaws.{place-most}
-use Rattle.sheet.specs.Answer.{headed}
+use Rattle.layout.specs.Answer.{headed}
 use Rattle.sheet.specs.Read.{readOf}
 use Rattle.sheet.proofs.PlaceLaws.{read-placed}
 use Rattle.console.specs.Code.{code}
-use Rattle.console.proofs.Rooms.{nothing-refused, nothing-given}
+use Rattle.console.proofs.ReadingLaws.{nothing-refused, nothing-given}
 use Rattle.console.proofs.no_room.Statement.{statement}
 use Rattle.console.proofs.no_room.Tie as tie
 

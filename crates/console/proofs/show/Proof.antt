@@ -9,7 +9,7 @@ use mir.Facts.{toZ-ofZ, toZ-pos}
 use Rattle.level.specs.Answer.{refused, given}
 use Rattle.console.specs.Code.{code}
 use Rattle.console.specs.Mark.{room}
-use Rattle.console.proofs.Rooms.{two-set}
+use Rattle.console.proofs.ReadingLaws.{two-set}
 use Rattle.console.proofs.show.Statement.{statement}
 use Rattle.console.proofs.show.Tie as tie
 

@@ -4,7 +4,7 @@ use native.Mathlib.Omega.{arith}
 use lib.ListN.{length-set}
 use mir.Syntax.{w64}
 use mir.Facts.{toZ-pos}
-use Rattle.console.proofs.Rooms.{three-set}
+use Rattle.console.proofs.ReadingLaws.{three-set}
 use Rattle.console.proofs.tell.Statement.{statement}
 use Rattle.console.proofs.tell.Tie as tie
 

@@ -4,9 +4,9 @@ use native.Mathlib.Omega.{arith}
 use borrow.Author.Needs.{needs}
 use Rattle.level.specs.Answer.{given}
 use Rattle.series.proofs.Refusals.{same-given, pass, stopped}
-use Rattle.sheet.specs.Answer.{headed, fields}
-use Rattle.sheet.specs.HeadLaws.{InOrder}
-use Rattle.sheet.specs.HeadLaws as HeadLaws
+use Rattle.layout.specs.Answer.{headed, fields}
+use Rattle.layout.specs.HeadLaws.{InOrder}
+use Rattle.layout.specs.HeadLaws as HeadLaws
 use Rattle.sheet.proofs.SheetRefusals.{head-alike}
 use Rattle.sheet.proofs.CompleteLaws.{promised}
 use Rattle.sheet.proofs.complete.Statement.{statement}

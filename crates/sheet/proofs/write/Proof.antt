@@ -8,7 +8,7 @@ use Rattle.level.specs.Answer.{Answer, refused, given}
 use Rattle.series.specs.Limits.{in-limits}
 use Rattle.series.specs.Answer.{checked}
 use Rattle.series.proofs.Refusals.{Alike, stopped, passed}
-use Rattle.sheet.specs.Format.{size}
+use Rattle.layout.specs.Format.{size}
 use Rattle.sheet.specs.Read.{filed}
 use Rattle.sheet.specs.Write.{room, writeOf}
 use Rattle.sheet.proofs.SheetRefusals.{tested-alike}

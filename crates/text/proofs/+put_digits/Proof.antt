@@ -6,7 +6,7 @@ use borrow.Fn.PlainCycle.{Measures, is, falls, and}
 use borrow.Author.Needs.{needs}
 use lib.ListN.{length-set}
 use Rattle.text.specs.Laws.{some-digit, length-more}
-use Rattle.text.proofs.Steps.{put-one, put-more}
+use Rattle.text.proofs.TextParts.{put-one, put-more}
 use Rattle.text.proofs.put_digits.Reads as put-digits
 use Rattle.text.proofs.put_digits.Kinds as put-digits-kinds
 use Rattle.text.proofs.+put_digits.Lts-put_digits as put-digits-lts

@@ -2,7 +2,7 @@
 use native.Mathlib.Omega.{arith}
 use Rattle.text.specs.Decimal.{decimal}
 use Rattle.text.specs.Laws.{length-decimal}
-use Rattle.text.proofs.Steps.{whole}
+use Rattle.text.proofs.TextParts.{whole}
 use Rattle.text.proofs.decimal.Statement.{statement}
 use Rattle.text.proofs.decimal.Tie as tie
 

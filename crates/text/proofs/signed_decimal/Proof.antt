@@ -6,7 +6,7 @@ use native.Mathlib.Omega.{arith}
 use borrow.Author.Needs.{needs}
 use lib.ListN.{length, length-set}
 use Rattle.text.specs.Decimal.{decimal}
-use Rattle.text.proofs.Steps.{whole, put-after, size-room, negative-text, natural-text}
+use Rattle.text.proofs.TextParts.{whole, put-after, size-room, negative-text, natural-text}
 use Rattle.text.proofs.signed_decimal.Statement.{statement}
 use Rattle.text.proofs.signed_decimal.Tie as tie
 

@@ -28,7 +28,7 @@ use Rattle.checker.specs.Records.{lengths-of, totals-of}
 use Rattle.checker.proofs.PlaceLaws.{check-placed}
 use Rattle.checker.proofs.Segment as T
 use Rattle.console.specs.Code.{code-of-none, farthest, told}
-use Rattle.console.proofs.Told.{plainly}
+use Rattle.console.proofs.ToldPlaces.{plainly}
 use Rattle.records.proofs.dawhikura_series_check_segments as f
 use Rattle.records.proofs.dawhikura_series_check_segments.Proof.Callees.{Args, slice, vals, answer}
 

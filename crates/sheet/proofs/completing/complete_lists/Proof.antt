@@ -12,7 +12,7 @@ use Rattle.optimality.specs.Machine.{plain-line}
 use Rattle.level.specs.Answer.{given, when-given}
 use Rattle.denoise.specs.Line.{drawn}
 use Rattle.sheet.specs.Complete.{Has}
-use Rattle.sheet.proofs.LoadLaws.{samples-loaded, lengths-loaded, totals-loaded, line-refused, completes}
+use Rattle.sheet.proofs.DecodedLists.{samples-loaded, lengths-loaded, totals-loaded, line-refused, completes}
 use Rattle.sheet.proofs.completing.complete_lists.Statement.{statement}
 use Rattle.sheet.proofs.completing.complete_lists.Tie as tie
 

@@ -7,7 +7,7 @@ use mir.Syntax.{w32}
 use mir.Facts.{toZ-ofZ}
 use lib.IntN.{pos}
 use lib.ListN.{length}
-use Rattle.sheet.proofs.Fill.{Copied, copied-more, copied-all}
+use Rattle.layout.proofs.ListLoop.{Copied, copied-more, copied-all}
 use Rattle.sheet.proofs.lists.copy_samples.Statement.{statement}
 use Rattle.sheet.proofs.lists.copy_samples.Tie as tie
 

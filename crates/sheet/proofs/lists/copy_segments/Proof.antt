@@ -7,7 +7,7 @@ use mir.Syntax.{w64}
 use mir.Facts.{toZ-ofZ}
 use lib.IntN.{pos}
 use lib.ListN.{length}
-use Rattle.sheet.proofs.Fill.{Copied, copied-more, copied-all}
+use Rattle.layout.proofs.ListLoop.{Copied, copied-more, copied-all}
 use Rattle.sheet.proofs.lists.copy_segments.Statement.{statement}
 use Rattle.sheet.proofs.lists.copy_segments.Tie as tie
 

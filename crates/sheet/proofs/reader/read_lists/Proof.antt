@@ -4,7 +4,7 @@ use native.Mathlib.Omega.{arith}
 use Prim.Native.Nat.{_≤_}
 use borrow.Author.Needs.{needs}
 use lib.Seq.{length-take-le}
-use Rattle.sheet.proofs.LoadLaws.{samples-loaded, lengths-loaded, totals-loaded, filled}
+use Rattle.sheet.proofs.DecodedLists.{samples-loaded, lengths-loaded, totals-loaded, filled}
 use Rattle.sheet.proofs.reader.read_lists.Statement.{statement}
 use Rattle.sheet.proofs.reader.read_lists.Tie as tie
 

@@ -4,8 +4,8 @@ use borrow.Author.Needs.{needs}
 use borrow.Author.Tests.{lt-ltb, le-ltb}
 use lib.ListN.{length}
 use Rattle.series.specs.Answer.{refill}
-use Rattle.sheet.specs.Format.{size}
-use Rattle.sheet.specs.SheetLaws.{length-sheet-bytes}
+use Rattle.layout.specs.Format.{size}
+use Rattle.layout.specs.SheetLaws.{length-sheet-bytes}
 use Rattle.sheet.proofs.writer.put_sheet.Statement.{statement}
 use Rattle.sheet.proofs.writer.put_sheet.Tie as tie
 

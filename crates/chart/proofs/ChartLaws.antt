@@ -1,0 +1,155 @@
+-- The chart of a line that passes the shape check: its segments and its marks tell one line, minute by minute.
+use mathlib.Core.Path.{_≡_, refl, sym, ap, _∙_, subst}
+use mathlib.Core.Logic.{_⊎_, inl, inr, ⊎-elim}
+use mathlib.Core.List.{List, [], _∷_}
+use mathlib.Core.Option.{none}
+use native.Mathlib.Omega.{arith}
+use native.Mathlib.Nat.{eq-or-lt-of-le}
+use Prim.Native.Nat.{ℕ, zero, suc, _+_, _-_, _<_, _≤_}
+use lib.ListN.{length, getD, getElem?, take, drop, drop-of-length-le}
+use lib.Seq.{take-length, take-all, drop-length, drop-cons}
+use lib.IntN.{ℤ, pos}
+use Rattle.integers.specs.Order.{_⋖_, ⋖→⩽}
+use Rattle.integers.specs.Linear.{lt-yes, lt-no}
+use Rattle.integers.specs.Products.{tri}
+use Rattle.level.specs.Answer.{refused, given}
+use Rattle.level.specs.Order.{cross}
+use Rattle.level.specs.Plot.{NearestF64}
+use Rattle.level.proofs.Closest.{le-or-lt}
+use Rattle.level.proofs.Nearest.{nearest-f64}
+use Rattle.chart.specs.Drawable.{sum}
+use Rattle.checker.specs.Check.{shapeOf}
+use Rattle.series.proofs.Refusals.{never}
+use Rattle.chart.specs.Chart.{Shown, plain, rise, fall, step, segment-at, mark-at, or-13, segmentOf, markOf}
+use Rattle.chart.specs.Drawable.{nth}
+use Rattle.chart.specs.Whole.{after, segments-from}
+use Rattle.chart.specs.declared.ChartSegment.{ChartSegment}
+use Rattle.chart.proofs.SumLaws.{sum-next}
+use Rattle.chart.proofs.LookupLaws.{segment-found, segment-lacks, mark-0, mark-inside, mark-end, skip, held}
+use Rattle.chart.proofs.DrawableLaws.{Passed, passed, shaped-is}
+
+module _ (n : ℕ) (ns : List ℕ) (ts : List ℤ) (ok : shapeOf n ns ts ≡ given tt) where
+  line : Passed n ns ts
+  line = passed n ns ts ok
+
+  paired : length ns ≡ length ts
+  paired = line .drawable .paired
+
+  segment-is : (j : ℕ) → or-13 (segment-at 0 ns ts j) ≡ segmentOf n ns ts j
+  segment-is j = shaped-is n ns ts (or-13 (segment-at 0 ns ts j)) (sym ok)
+
+  mark-is : (k : ℕ) → or-13 (mark-at ns ts k) ≡ markOf n ns ts k
+  mark-is k = shaped-is n ns ts (or-13 (mark-at ns ts k)) (sym ok)
+
+  -- ---- segment number suc j, and the marks of its minutes
+  abbrev seg : ℕ → ChartSegment
+  seg j = after (sum (take j ns)) (nth ns ts j)
+
+  seg-given : (j : ℕ) → j < length ns → segmentOf n ns ts (suc j) ≡ given (seg j)
+  seg-given j h = sym (segment-is (suc j)) ∙ ap or-13 (segment-found ns ts j h paired)
+
+  given-seg : (j : ℕ) (s : ChartSegment) → segmentOf n ns ts (suc j) ≡ given s → (j < length ns) × (seg j ≡ s)
+  given-seg j s e =
+      ⊎-elim (λ (h : suc j ≤ length ns). (h, let f = seg-given j h in cc))
+      (λ (h : length ns < suc j). never (sym (ap or-13 (segment-lacks ns ts 0 (suc j) h)) ∙ segment-is (suc j) ∙ e))
+      (le-or-lt (suc j) (length ns))
+
+  seg-inside : (j k : ℕ) → j < length ns → sum (take j ns) < k → k < seg j .last → markOf n ns ts k ≡ given (plain (seg j .level))
+  seg-inside j k h f g =
+      let i = k - sum (take j ns) in
+      sym (mark-is k) ∙ ap or-13 (ap (mark-at ns ts) (omega arith) ∙ skip ns ts paired j (omega arith) i (omega arith) ∙ mark-inside ns ts paired j h i (omega arith) (omega arith))
+
+  seg-end : (j : ℕ) → j < length ns → markOf n ns ts (seg j .last) ≡ given (step (nth ns ts j) (drop (suc j) ns) (drop (suc j) ts))
+  seg-end j h =
+      let i = getD ns j 0 in
+      let p = line .drawable .valid j h .some in
+      sym (mark-is (seg j .last)) ∙ ap or-13 (skip ns ts paired j (omega arith) i p ∙ mark-end ns ts paired j h i p refl)
+
+  -- ---- every segment and every minute is there, and 13 comes for no other
+  pub segment-there : (j : ℕ) → 0 < j → j ≤ length ns → (s : ChartSegment) × (segmentOf n ns ts j ≡ given s)
+  segment-there zero p h = absurd (omega arith)
+  segment-there (suc j) p h = (seg j, seg-given j h)
+
+  pub segment-lacking : (j : ℕ) → (j ≡ 0) ⊎ (length ns < j) → segmentOf n ns ts j ≡ refused 13 0
+  unfolding segment-at
+  segment-lacking j h = sym (segment-is j) ∙ ap or-13 (⊎-elim (λ (e : j ≡ 0). rw e) (λ (g : length ns < j). segment-lacks ns ts 0 j g) h)
+
+  pub mark-there : (k : ℕ) → 0 < k → k ≤ n → (m : Shown) × (markOf n ns ts k ≡ given m)
+  mark-there k p h =
+      let r = held ns k p (omega (arith, line .long)) in
+      ⊎-elim (λ (e : k ≡ seg (r .j) .last). (_, ap (markOf n ns ts) e ∙ seg-end (r .j) (r .is)))
+      (λ (g : k < seg (r .j) .last). (_, seg-inside (r .j) k (r .is) (r .from) g))
+      (eq-or-lt-of-le (r .upto))
+
+  pub mark-lacking : (k : ℕ) → (k ≡ 0) ⊎ (n < k) → markOf n ns ts k ≡ refused 13 0
+  unfolding mark-at
+  mark-lacking k h = sym (mark-is k) ∙ ap or-13 (⊎-elim (λ (e : k ≡ 0). rw e (mark-0 ns ts)) (λ (g : n < k). past g) h)
+    where
+      past : n < k → mark-at ns ts k ≡ none
+      past g =
+          let i = k - n in
+          let e : k ≡ sum (take (length ns) ns) + i = rw (take-length ns, line .long) (omega arith) in
+          ap (mark-at ns ts) e ∙ skip ns ts paired (length ns) (omega arith) i (omega arith) ∙ ap (λ l. mark-at l (drop (length ns) ts) i) (drop-length ns)
+
+  -- ---- the segments lie end to end, and each minute is in one of them
+  pub first-start : (s : ChartSegment) → segmentOf n ns ts 1 ≡ given s → s .first ≡ 1
+  unfolding sum
+  first-start s e = sym (ap (λ (s : ChartSegment). s .first) (given-seg 0 s e .1))
+
+  pub next-start : (j : ℕ) (s t : ChartSegment) → segmentOf n ns ts (suc j) ≡ given s → segmentOf n ns ts (suc (suc j)) ≡ given t → t .first ≡ s .last + 1
+  next-start j s t e f =
+      let p = given-seg j s e in
+      let q = given-seg (suc j) t f in
+      sym (ap (λ (s : ChartSegment). s .first) (q .1)) ∙ ap (λ m. m + 1) (sum-next ns j (p .0)) ∙ ap (λ (s : ChartSegment). s .last + 1) (p .1)
+
+  pub last-end : (j : ℕ) (s : ChartSegment) → segmentOf n ns ts (suc j) ≡ given s → suc j ≡ length ns → s .last ≡ n
+  last-end j s e f = let p = given-seg j s e in sym (ap (λ (s : ChartSegment). s .last) (p .1)) ∙ sym (sum-next ns j (p .0)) ∙ ap sum (take-all (suc j) ns (omega arith)) ∙ line .long
+
+  pub record Holder (k : ℕ) : Type 0 where
+    pub number : ℕ
+    pub segment : ChartSegment
+    pub there : segmentOf n ns ts number ≡ given segment
+    pub from : segment .first ≤ k
+    pub upto : k ≤ segment .last
+
+  pub holder : (k : ℕ) → 0 < k → k ≤ n → Holder k
+  holder k p h =
+      let r = held ns k p (omega (arith, line .long)) in
+      record { number = suc (r .j); segment = seg (r .j); there = seg-given (r .j) (r .is); from = omega (arith, r .from); upto = r .upto }
+
+  -- ---- the mark of a minute: the level of its segment, and at the segment's last minute the step to the next, by the exact levels
+  pub mark-within : (j k : ℕ) (s : ChartSegment) → segmentOf n ns ts (suc j) ≡ given s → s .first ≤ k → k < s .last → markOf n ns ts k ≡ given (plain (s .level))
+  mark-within j k s e =
+      let p = given-seg j s e in
+      subst (λ (s : ChartSegment). s .first ≤ k → k < s .last → markOf n ns ts k ≡ given (plain (s .level))) (p .1) (λ f g. seg-inside j k (p .0) (omega arith) g)
+
+  pub mark-last : (j : ℕ) (s : ChartSegment) → segmentOf n ns ts (suc j) ≡ given s → suc j ≡ length ns → markOf n ns ts (s .last) ≡ given (plain (s .level))
+  mark-last j s e f =
+      let p = given-seg j s e in
+      rw (← p .1) (rw (drop-of-length-le ns {i = suc j} (omega arith)) at (seg-end j (p .0)))
+
+  pub mark-step : (j : ℕ) (s t : ChartSegment) → segmentOf n ns ts (suc j) ≡ given s → segmentOf n ns ts (suc (suc j)) ≡ given t →
+      let a = nth ns ts j in
+      let b = nth ns ts (suc j) in
+      ((cross a b ⋖ cross b a) × (markOf n ns ts (s .last) ≡ given (rise (s .level) (t .level)))) ⊎ ((cross b a ⋖ cross a b) × (markOf n ns ts (s .last) ≡ given (fall (s .level) (t .level))))
+  mark-step j s t e f =
+      let p = given-seg j s e in
+      let q = given-seg (suc j) t f in
+      let a = nth ns ts j in
+      let b = nth ns ts (suc j) in
+      let m = rw (drop-cons ns (suc j) 0 (q .0), drop-cons ts (suc j) (pos 0) (omega (arith, q .0, paired))) at (seg-end j (p .0)) in
+      ⊎-elim (λ (l : cross a b ⋖ cross b a). inl (l, rw (← p .1, ← q .1) (rw (lt-yes l) at m)))
+      (⊎-elim (λ (l : cross a b ≡ cross b a). absurd (line .differ j (q .0) l)) (λ (l : cross b a ⋖ cross a b). inr (l, rw (← p .1, ← q .1) (rw (lt-no (⋖→⩽ l)) at m))))
+      (tri (cross a b) (cross b a))
+
+  -- ---- the levels shown
+  pub level-nearest : (j : ℕ) (s : ChartSegment) → segmentOf n ns ts (suc j) ≡ given s → NearestF64 (nth ns ts j) (s .level)
+  level-nearest j s e = let p = given-seg j s e in subst (λ (s : ChartSegment). NearestF64 (nth ns ts j) (s .level)) (p .1) (nearest-f64 (nth ns ts j) (line .drawable .valid j (p .0)))
+
+-- ---- the lists that `segments` fills have the segments in their order
+pub listed : (ns : List ℕ) (ts : List ℤ) (before j : ℕ) → getElem? (segments-from before ns ts) j ≡ segment-at before ns ts (suc j)
+unfolding segments-from segment-at
+listed [] ts before j = refl
+listed (n ∷ ns) [] before j = refl
+listed (n ∷ ns) (t ∷ ts) before zero = refl
+listed (n ∷ ns) (t ∷ ts) before (suc j) = listed ns ts (before + n) j
