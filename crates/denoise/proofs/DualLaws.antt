@@ -1,18 +1,18 @@
--- The numbers that `balances` fills in are the dual of Conditions.antt: each, times Q over the length of the segment that holds its minute, is Q u[k].
+-- The numbers that `balances` fills in are the dual of Conditions.antt: each, times Q over the divisor of the segment that holds its minute, is Q u[k].
 use mathlib.Core.Path.{_≡_, refl, sym, ap, _∙_, subst}
 use mathlib.Core.List.{List, [], _∷_, _++_}
 use Prim.Native.Nat.{ℕ, zero, suc, _/_, _<_, _≤_}
 use native.Mathlib.Omega.{arith}
 use lib.ListN.{length, getD, take, drop, replicate, length-drop, List·getD-append}
-use lib.IntN.{ℤ, pos, _+ℤ_, _*ℤ_, _-ℤ_}
+use lib.IntN.{ℤ, pos, _+ℤ_, _*ℤ_, _-ℤ_, *ℤ-zero}
 use Rattle.integers.specs.Order.{0⩽pos}
 use Rattle.integers.specs.Ring.{ring, reify}
 use Rattle.integers.specs.Sums.{sumZ}
-use Rattle.optimality.specs.Series.{Minute, plain, plain-minute}
+use Rattle.optimality.specs.Series.{Minute, plain, weighted}
 use Rattle.optimality.specs.Conditions.{after, dual}
-use Rattle.optimality.specs.Segments.{Segment, total-length, IsLine, Scale, numerators, by-divisor, then-v}
+use Rattle.optimality.specs.Segments.{Segment, total-length, weigh, Weighed, WellFormed, Scale, numerators, by-divisor, then-v}
 use Rattle.optimality.specs.Scales.{quotient}
-use Rattle.optimality.specs.Plain.{segments, line-lengths, line-totals, length-plain, formed-lists}
+use Rattle.optimality.specs.Plain.{length-plain}
 use Rattle.optimality.specs.Machine.{plain-line}
 use Rattle.optimality.specs.Theorems as Theorems
 use Rattle.level.specs.Answer.{given}
@@ -46,17 +46,14 @@ one-each Q U (m ∷ ms) (x ∷ xs) [] ds h = absurd h
 one-each Q U (m ∷ ms) [] cs ds h = absurd h
 
 -- ---- one minute, in whole numbers
-by-none : (Q : ℤ) → Q *ℤ pos 0 ≡ pos 0
-by-none Q = ring (Q ∷ []) (search reify depth 20) refl
-
-one : (c v d y t : ℤ) → c *ℤ (v +ℤ pos 1 *ℤ (d *ℤ y -ℤ t)) ≡ c *ℤ v +ℤ pos 1 *ℤ (d *ℤ c *ℤ y -ℤ t *ℤ c)
-one c v d y t = ring (c ∷ v ∷ d ∷ y ∷ t ∷ []) (search reify depth 20) refl
+one : (c v w d y t : ℤ) → c *ℤ (v +ℤ w *ℤ (d *ℤ y -ℤ t)) ≡ c *ℤ v +ℤ w *ℤ (d *ℤ c *ℤ y -ℤ t *ℤ c)
+one c v w d y t = ring (c ∷ v ∷ w ∷ d ∷ y ∷ t ∷ []) (search reify depth 20) refl
 
 none-left : (v d t : ℤ) → v +ℤ d *ℤ pos 0 -ℤ pos 0 *ℤ t ≡ v
 none-left v d t = ring (v ∷ d ∷ t ∷ []) (search reify depth 20) refl
 
-one-less : (v d y t n r : ℤ) → v +ℤ pos 1 *ℤ (d *ℤ y -ℤ t) +ℤ d *ℤ r -ℤ n *ℤ t ≡ v +ℤ d *ℤ (y +ℤ r) -ℤ (pos 1 +ℤ n) *ℤ t
-one-less v d y t n r = ring (v ∷ d ∷ y ∷ t ∷ n ∷ r ∷ []) (search reify depth 20) refl
+one-less : (v w d y t n r : ℤ) → v +ℤ w *ℤ (d *ℤ y -ℤ t) +ℤ d *ℤ r -ℤ n *ℤ t ≡ v +ℤ d *ℤ (w *ℤ y +ℤ r) -ℤ (w +ℤ n) *ℤ t
+one-less v w d y t n r = ring (v ∷ w ∷ d ∷ y ∷ t ∷ n ∷ r ∷ []) (search reify depth 20) refl
 
 regroup : (c d u : ℤ) → c *ℤ (d *ℤ u) ≡ d *ℤ c *ℤ u
 regroup c d u = ring (c ∷ d ∷ u ∷ []) (search reify depth 20) refl
@@ -69,69 +66,51 @@ module _ (Q : ℤ) (q : ℕ) (s : Segment) (scale : pos (s .divisor) *ℤ pos q 
   abbrev d : ℤ
   d = pos (s .divisor)
 
-  next : (v y : ℤ) → pos q *ℤ then-v s v (plain-minute y) ≡ after Q (pos q *ℤ v) (plain-minute y) (s .total *ℤ pos q)
-  next v y = rw (← scale) (one (pos q) v d y (s .total))
+  next : (v : ℤ) (m : Minute) → pos q *ℤ then-v s v m ≡ after Q (pos q *ℤ v) m (s .total *ℤ pos q)
+  next v m = rw (← scale) (one (pos q) v (m .weight) d (m .sample) (s .total))
 
   begin : (v : ℤ) → v ≡ d *ℤ u → pos q *ℤ v ≡ Q *ℤ u
   begin v e = ap (λ x. pos q *ℤ x) e ∙ regroup (pos q) d u ∙ ap (λ x. x *ℤ u) scale
 
-  along : (n : ℕ) (v : ℤ) (ys : List ℤ) → n ≤ length ys → v +ℤ d *ℤ sumZ (take n ys) -ℤ pos n *ℤ s .total ≡ d *ℤ u → Agree Q (Q *ℤ u) (plain (drop n ys)) xs cs ds →
-      Agree Q (pos q *ℤ v) (plain ys) (replicate n (s .total *ℤ pos q) ++ xs) (replicate n q ++ cs) (duals-inside s v (take n ys) ++ ds)
-  unfolding Agree plain duals-inside sumZ
-  along zero v ys h e r = subst (λ U. Agree Q U (plain ys) xs cs ds) (sym (begin v (sym (none-left v d (s .total)) ∙ e))) r
+  along : (n : ℕ) (v : ℤ) (ms : List Minute) → n ≤ length ms → v +ℤ d *ℤ weighted (take n ms) -ℤ weigh n ms *ℤ s .total ≡ d *ℤ u → Agree Q (Q *ℤ u) (drop n ms) xs cs ds →
+      Agree Q (pos q *ℤ v) ms (replicate n (s .total *ℤ pos q) ++ xs) (replicate n q ++ cs) (duals-inside s v (take n ms) ++ ds)
+  unfolding Agree duals-inside sumZ weigh
+  along zero v ms h e r = subst (λ U. Agree Q U ms xs cs ds) (sym (begin v (sym (none-left v d (s .total)) ∙ e))) r
   along (suc n) v [] h e r = absurd (omega arith)
-  along (suc n) v (y ∷ ys) h e r =
-      let k : pos (suc n) ≡ pos 1 +ℤ pos n = ap pos (omega arith) in
-      let f = one-less v d y (s .total) (pos n) (sumZ (take n ys)) ∙ ap (λ m. v +ℤ d *ℤ (y +ℤ sumZ (take n ys)) -ℤ m *ℤ s .total) (sym k) ∙ e in
-      (next v y, subst (λ U. Agree Q U (plain ys) (replicate n (s .total *ℤ pos q) ++ xs) (replicate n q ++ cs) (duals-inside s (then-v s v (plain-minute y)) (take n ys) ++ ds)) (next v y) (along n (then-v s v (plain-minute y)) ys (omega arith) f r))
+  along (suc n) v (m ∷ ms) h e r =
+      let f = one-less v (m .weight) d (m .sample) (s .total) (weigh n ms) (weighted (take n ms)) ∙ e in
+      (next v m, subst (λ U. Agree Q U ms (replicate n (s .total *ℤ pos q) ++ xs) (replicate n q ++ cs) (duals-inside s (then-v s v m) (take n ms) ++ ds)) (next v m) (along n (then-v s v m) ms (omega arith) f r))
 
--- ---- along a line whose divisors are its lengths
-unfoldable Plainly : List Segment → Type 0
-Plainly [] = Unit {0}
-Plainly (s ∷ ss) = (s .divisor ≡ s .len) × Plainly ss
-
-all-along : (Q : ℕ) → 0 < Q → (u : ℤ) (ys : List ℤ) (ss : List Segment) → total-length ss ≡ length ys → Plainly ss → Scale Q ss → Agree (pos Q) (pos Q *ℤ u) (plain ys) (numerators Q ss) (factors Q ss) (duals u ys ss)
-unfolding Agree plain total-length Plainly Scale numerators factors duals
-all-along Q p u [] [] l f z = tt
-all-along Q p u (y ∷ ys) [] l f z = absurd (omega arith)
-all-along Q p u ys (s ∷ ss) l f z =
+-- ---- along a line
+all-along : (Q : ℕ) → 0 < Q → (u : ℤ) (ms : List Minute) (ss : List Segment) → total-length ss ≡ length ms → Weighed ms ss → Scale Q ss → Agree (pos Q) (pos Q *ℤ u) ms (numerators Q ss) (factors Q ss) (duals u ms ss)
+unfolding Agree total-length Weighed Scale numerators factors duals
+all-along Q p u [] [] l w z = tt
+all-along Q p u (m ∷ ms) [] l w z = absurd (omega arith)
+all-along Q p u ms (s ∷ ss) l w z =
     let sc = quotient Q (s .divisor) p (z .0) .times in
-    let u′ = u +ℤ sumZ (take (s .len) ys) -ℤ s .total in
-    let rest = all-along Q p u′ (drop (s .len) ys) ss (omega (arith, length-drop (s .len) ys)) (f .1) (z .1) in
+    let r = weighted (take (s .len) ms) in
+    let u′ = u +ℤ r -ℤ s .total in
     let d = pos (s .divisor) in
-    let e : by-divisor s u +ℤ d *ℤ sumZ (take (s .len) ys) -ℤ pos (s .len) *ℤ s .total ≡ d *ℤ u′ = subst (λ (n : ℕ). by-divisor s u +ℤ d *ℤ sumZ (take (s .len) ys) -ℤ pos n *ℤ s .total ≡ d *ℤ u′) (f .0) (whole d u (sumZ (take (s .len) ys)) (s .total)) in
-    subst (λ U. Agree (pos Q) U (plain ys) (numerators Q (s ∷ ss)) (factors Q (s ∷ ss)) (duals u ys (s ∷ ss))) (begin (pos Q) (Q / s .divisor) s sc u [] [] [] (by-divisor s u) refl)
-    (along (pos Q) (Q / s .divisor) s sc u′ (numerators Q ss) (factors Q ss) (duals u′ (drop (s .len) ys) ss) (s .len) (by-divisor s u) ys (omega arith) e rest)
-
-plainly : (ns : List ℕ) (ts : List ℤ) → Plainly (segments ns ts)
-unfolding Plainly segments
-plainly [] ts = tt
-plainly (n ∷ ns) [] = tt
-plainly (n ∷ ns) (t ∷ ts) = (refl, plainly ns ts)
+    let e = ap (λ n. d *ℤ u +ℤ d *ℤ r -ℤ n *ℤ s .total) (sym (w .0)) ∙ whole d u r (s .total) in
+    let rest = all-along Q p u′ (drop (s .len) ms) ss (omega (arith, length-drop (s .len) ms)) (w .1) (z .1) in
+    subst (λ U. Agree (pos Q) U ms (numerators Q (s ∷ ss)) (factors Q (s ∷ ss)) (duals u ms (s ∷ ss))) (begin (pos Q) (Q / s .divisor) s sc u [] [] [] (by-divisor s u) refl)
+    (along (pos Q) (Q / s .divisor) s sc u′ (numerators Q ss) (factors Q ss) (duals u′ (drop (s .len) ms) ss) (s .len) (by-divisor s u) ms (omega arith) e rest)
 
 -- ---- what the list holds after a call that is not refused
 module _ (ys : List ℤ) (L : ℕ) (out : List ℤ) (e : balancesOf ys L out ≡ given tt) where
   abbrev l : List Segment
   l = plain-line (pos L) ys
 
-  some : 0 < length ys
-  some = limits-given ys L e .0 .some
-
-  line : IsLine (pos L) (pos 0) (pos 0) (plain ys) l
-  line = Theorems.meets (pos L) ys some (0⩽pos L)
-
-  agreed : (Q : ℕ) → 0 < Q → Scale Q l → Agree (pos Q) (pos 0) (plain ys) (numerators Q l) (factors Q l) (duals (pos 0) ys l)
-  agreed Q p z =
-      let f : Plainly l = subst (λ ss. Plainly ss) (sym (formed-lists ys l (line .formed))) (plainly (line-lengths l) (line-totals l)) in
-      subst (λ U. Agree (pos Q) U (plain ys) (numerators Q l) (factors Q l) (duals (pos 0) ys l)) (by-none (pos Q)) (all-along Q p (pos 0) ys l (line .formed .long ∙ length-plain ys) f z)
+  formed : WellFormed (plain ys) l
+  formed = Theorems.meets (pos L) ys (limits-given ys L e .0 .some) (0⩽pos L) .formed
 
   pub balanced : (Q : ℕ) → 0 < Q → Scale Q l → (k : ℕ) → k < length ys →
       pos (getD (factors Q l) k 0) *ℤ getD (balancesAfter ys L out) k (pos 0) ≡ dual (pos Q) (pos 0) (plain ys) (numerators Q l) (suc k)
   unfolding refill
   balanced Q p z k h =
-      let a = agreed Q p z in
+      let a = rw (*ℤ-zero (pos Q)) at (all-along Q p (pos 0) (plain ys) l (formed .long) (formed .weighed) z) in
       let n : k < length (plain ys) = omega (arith, length-plain ys) in
-      let b : balancesAfter ys L out ≡ refill (duals (pos 0) ys l) out = rw e in
+      let b : balancesAfter ys L out ≡ refill (duals (pos 0) (plain ys) l) out = rw e in
       ap (λ (xs : List ℤ). pos (getD (factors Q l) k 0) *ℤ getD xs k (pos 0)) b
-      ∙ ap (λ x. pos (getD (factors Q l) k 0) *ℤ x) (List·getD-append (duals (pos 0) ys l) _ (pos 0) k (omega (arith, one-each (pos Q) (pos 0) (plain ys) _ _ _ a)))
-      ∙ at (pos Q) (pos 0) (plain ys) (numerators Q l) (factors Q l) (duals (pos 0) ys l) a k n
+      ∙ ap (λ x. pos (getD (factors Q l) k 0) *ℤ x) (List·getD-append (duals (pos 0) (plain ys) l) _ (pos 0) k (omega (arith, one-each (pos Q) (pos 0) (plain ys) _ _ _ a)))
+      ∙ at (pos Q) (pos 0) (plain ys) (numerators Q l) (factors Q l) (duals (pos 0) (plain ys) l) a k n

@@ -12,7 +12,7 @@ use Rattle.integers.specs.Linear.{int, size}
 use Rattle.integers.specs.Sums.{sumZ}
 use Rattle.integers.specs.Bounds.{Upto, mul-both}
 use Rattle.optimality.specs.Limits.{Slight}
-use Rattle.optimality.specs.Series.{plain-minute}
+use Rattle.optimality.specs.Series.{plain, plain-minute}
 use Rattle.optimality.specs.Segments.{then-v}
 use Rattle.denoise.specs.Dual.{duals-inside}
 use Rattle.denoise.specs.Run.{as-segment}
@@ -39,7 +39,7 @@ module _ (ys : List ℤ) (p : Span) (end : ℕ) (start : Dual) (out₀ : List �
     pub v-small : natAbs (d .v) ≤ 72057594037927936 + (d .k - start .k) * 4398046511104
     pub u-small : natAbs (d .u) ≤ 1099511627776 + (d .k - start .k) * 16777216
     pub sums : d .u +ℤ sumZ (left (d .k)) ≡ start .u +ℤ sumZ (left (start .k))
-    pub fills : sets out (d .k) (duals-inside (as-segment p) (d .v) (left (d .k))) ≡ sets out₀ (start .k) (duals-inside (as-segment p) (start .v) (left (start .k)))
+    pub fills : sets out (d .k) (duals-inside (as-segment p) (d .v) (plain (left (d .k)))) ≡ sets out₀ (start .k) (duals-inside (as-segment p) (start .v) (plain (left (start .k))))
 
   pub filling-first : start .k ≤ end → natAbs (start .v) ≤ 72057594037927936 → natAbs (start .u) ≤ 1099511627776 → Filling out₀ start
   filling-first h v u = record { from = omega arith; upto = h; long = refl; v-small = omega arith; u-small = omega arith; sums = refl; fills = refl }
@@ -62,9 +62,9 @@ module _ (ys : List ℤ) (p : Span) (end : ℕ) (start : Dual) (out₀ : List �
       then-is : then-v (as-segment p) (d .v) (plain-minute y) ≡ next .v
       then-is = rw (above-abs (p .n) above) (then-z (d .v) (p .n) y (p .total))
 
-      inside : duals-inside (as-segment p) (d .v) (left (d .k)) ≡ next .v ∷ duals-inside (as-segment p) (next .v) (left (suc (d .k)))
-      unfolding duals-inside
-      inside = ap (duals-inside (as-segment p) (d .v)) one ∙ ap (λ v. v ∷ duals-inside (as-segment p) v (left (suc (d .k)))) then-is
+      inside : duals-inside (as-segment p) (d .v) (plain (left (d .k))) ≡ next .v ∷ duals-inside (as-segment p) (next .v) (plain (left (suc (d .k))))
+      unfolding plain duals-inside
+      inside = ap (λ l. duals-inside (as-segment p) (d .v) (plain l)) one ∙ ap (λ v. v ∷ duals-inside (as-segment p) v (plain (left (suc (d .k))))) then-is
 
       sum-one : sumZ (left (d .k)) ≡ y +ℤ sumZ (left (suc (d .k)))
       unfolding sumZ
@@ -93,6 +93,6 @@ module _ (ys : List ℤ) (p : Span) (end : ℕ) (start : Dual) (out₀ : List �
       unfolding sumZ
       sum-end = sym (+ℤ-idr (d .u)) ∙ ap (λ l. d .u +ℤ sumZ l) (sym none) ∙ K .sums
 
-      pub filled : out ≡ sets out₀ (start .k) (duals-inside (as-segment p) (start .v) (left (start .k)))
-      unfolding duals-inside
-      filled = ap (λ l. sets out (d .k) (duals-inside (as-segment p) (d .v) l)) (sym none) ∙ K .fills
+      pub filled : out ≡ sets out₀ (start .k) (duals-inside (as-segment p) (start .v) (plain (left (start .k))))
+      unfolding plain duals-inside
+      filled = ap (λ l. sets out (d .k) (duals-inside (as-segment p) (d .v) (plain l))) (sym none) ∙ K .fills

@@ -10,7 +10,8 @@ use Rattle.integers.specs.Order.{_⋖_}
 use Rattle.integers.specs.Sums.{sumZ}
 use Rattle.optimality.specs.Segments.{Segment, by-divisor, then-v}
 use Rattle.optimality.specs.Limits.{Slight, sample-small}
-use Rattle.optimality.specs.Series.{plain-minute, Limited}
+use Rattle.optimality.specs.Series.{Minute, plain, weighted, Limited}
+use Rattle.optimality.specs.Plain.{length-plain, plain-weighted, take-plain, drop-plain}
 use Rattle.optimality.specs.Machine.{begin, plain-line}
 use Rattle.series.specs.Answer.{refill}
 use Rattle.denoise.specs.Dual.{duals-inside, duals}
@@ -25,17 +26,22 @@ use Rattle.denoise.proofs.DrawLoop.{whole}
 use Rattle.denoise.proofs.DualBound.{StartsWithin, line-starts-within}
 
 -- ---- lengths
-inside-long : (g : Segment) (v : ℤ) (ys : List ℤ) → length (duals-inside g v ys) ≡ length ys
+inside-long : (g : Segment) (v : ℤ) (ms : List Minute) → length (duals-inside g v ms) ≡ length ms
 unfolding duals-inside
 inside-long g v [] = refl
-inside-long g v (y ∷ ys) = ap suc (inside-long g (then-v g v (plain-minute y)) ys)
+inside-long g v (m ∷ ms) = ap suc (inside-long g (then-v g v m) ms)
 
-duals-short : (u : ℤ) (ys : List ℤ) (l : List Segment) → length (duals u ys l) ≤ length ys
+duals-short : (u : ℤ) (ms : List Minute) (l : List Segment) → length (duals u ms l) ≤ length ms
 unfolding duals
-duals-short u ys [] = omega arith
-duals-short u ys (g ∷ l) =
-    let h = duals-short (u +ℤ sumZ (take (g .len) ys) -ℤ g .total) (drop (g .len) ys) l in
-    simp (length-append, inside-long) (omega (arith, h, length-take (g .len) ys, length-drop (g .len) ys))
+duals-short u ms [] = omega arith
+duals-short u ms (g ∷ l) =
+    let h = duals-short (u +ℤ weighted (take (g .len) ms) -ℤ g .total) (drop (g .len) ms) l in
+    simp (length-append, inside-long) (omega (arith, h, length-take (g .len) ms, length-drop (g .len) ms))
+
+-- a segment of a plain series
+duals-plain : (u : ℤ) (ys : List ℤ) (g : Segment) (l : List Segment) → duals u (plain ys) (g ∷ l) ≡ duals-inside g (by-divisor g u) (plain (take (g .len) ys)) ++ duals (u +ℤ sumZ (take (g .len) ys) -ℤ g .total) (plain (drop (g .len) ys)) l
+unfolding duals
+duals-plain u ys g l = rw (take-plain (g .len) ys, drop-plain (g .len) ys, plain-weighted (take (g .len) ys))
 
 -- stores in two runs
 sets-append : {A : Type 0} (xs : List A) (i : ℕ) (vs ws : List A) → sets xs i (vs ++ ws) ≡ sets (sets xs i vs) (i + length vs) ws
@@ -52,7 +58,7 @@ module _ (ys : List ℤ) (smoothing : ℕ) (out₀ : List ℤ) where
     pub short : r .i < length ys
     pub long : length out ≡ length out₀
     pub starts-within : StartsWithin smoothing (m .u) (drop (m .i) ys) (rest ys smoothing r)
-    pub left : sets out (m .i) (duals (m .u) (drop (m .i) ys) (rest ys smoothing r)) ≡ sets out₀ 0 (duals (pos 0) ys line)
+    pub left : sets out (m .i) (duals (m .u) (plain (drop (m .i) ys)) (rest ys smoothing r)) ≡ sets out₀ 0 (duals (pos 0) (plain ys) line)
 
   pub traced-first : Limited ys smoothing → (r : Run) → stateOf r ≡ begin (dataOf ys smoothing) 0 (pos 0) → Traced out₀ (record { i = 0; u = pos 0 }) r
   traced-first W r e =
@@ -66,7 +72,7 @@ module _ (ys : List ℤ) (smoothing : ℕ) (out₀ : List ℤ) where
 
   module _ (W : Limited ys smoothing) {out : List ℤ} {m : Origin} {r : Run} (K : Traced out m r) (p : Span) where
     filled-long : m .i + p .len ≤ length ys → length (filledOf ys m p) ≡ p .len
-    filled-long h = inside-long (as-segment p) (by-divisor (as-segment p) (m .u)) (minutes ys m p) ∙ length-take-le (p .len) (drop (m .i) ys) (simp length-drop (omega arith))
+    filled-long h = inside-long (as-segment p) (by-divisor (as-segment p) (m .u)) (plain (minutes ys m p)) ∙ length-plain (minutes ys m p) ∙ length-take-le (p .len) (drop (m .i) ys) (simp length-drop (omega arith))
 
     -- what the dual is before p, and after it
     module _ {l : List Segment} (e : rest ys smoothing r ≡ as-segment p ∷ l) where
@@ -79,10 +85,9 @@ module _ (ys : List ℤ) (smoothing : ℕ) (out₀ : List ℤ) where
       after = rw drop-drop at (subst (StartsWithin smoothing (m .u) (drop (m .i) ys)) e (K .starts-within) .1)
 
       -- the rest is filled in after it
-      opened : m .i + p .len ≤ length ys → sets out (m .i) (duals (m .u) (drop (m .i) ys) (rest ys smoothing r)) ≡ sets (sets out (m .i) (filledOf ys m p)) (m .i + p .len) (duals (endOf ys m p .u) (drop (m .i + p .len) ys) l)
-      unfolding duals
+      opened : m .i + p .len ≤ length ys → sets out (m .i) (duals (m .u) (plain (drop (m .i) ys)) (rest ys smoothing r)) ≡ sets (sets out (m .i) (filledOf ys m p)) (m .i + p .len) (duals (endOf ys m p .u) (plain (drop (m .i + p .len) ys)) l)
       opened h =
-          ap (λ l. sets out (m .i) (duals (m .u) (drop (m .i) ys) l)) e
+          ap (sets out (m .i)) (ap (duals (m .u) (plain (drop (m .i) ys))) e ∙ duals-plain (m .u) (drop (m .i) ys) (as-segment p) l)
           ∙ sets-append out (m .i) (filledOf ys m p) _
           ∙ rw (filled-long h, drop-drop)
 
@@ -116,6 +121,6 @@ module _ (ys : List ℤ) (smoothing : ℕ) (out₀ : List ℤ) where
       pub stop-fills : Fills ys m p
       stop-fills = fills (S .rest) (omega (arith, K .at, S .long, S .short)) (S .above) (S .small)
 
-      pub traced-end : length ys ≤ length out₀ → sets out (m .i) (filledOf ys m p) ≡ refill (duals (pos 0) ys line) out₀
+      pub traced-end : length ys ≤ length out₀ → sets out (m .i) (filledOf ys m p) ≡ refill (duals (pos 0) (plain ys) line) out₀
       unfolding duals
-      traced-end h = sym (opened (S .rest) (stop-fills .upto)) ∙ K .left ∙ sets-refill (duals (pos 0) ys line) out₀ (omega (arith, duals-short (pos 0) ys line))
+      traced-end h = sym (opened (S .rest) (stop-fills .upto)) ∙ K .left ∙ sets-refill (duals (pos 0) (plain ys) line) out₀ (omega (arith, duals-short (pos 0) (plain ys) line, length-plain ys))

@@ -7,6 +7,7 @@ use Rattle.integers.specs.Order.{_⋖_}
 use Rattle.integers.specs.Sums.{sumZ}
 use Rattle.integers.specs.Bounds.{Upto}
 use Rattle.optimality.specs.Limits.{Slight}
+use Rattle.optimality.specs.Series.{plain}
 use Rattle.optimality.specs.Segments.{by-divisor}
 use Rattle.denoise.specs.Dual.{duals-inside}
 use Rattle.denoise.specs.Run.{as-segment}
@@ -37,7 +38,7 @@ module _ (ys : List ℤ) (m : Origin) (p : Span) where
   minutes = take (p .len) (drop (m .i) ys)
 
   abbrev pub filledOf : List ℤ
-  filledOf = duals-inside (as-segment p) (by-divisor (as-segment p) (m .u)) minutes
+  filledOf = duals-inside (as-segment p) (by-divisor (as-segment p) (m .u)) (plain minutes)
 
   abbrev pub endOf : Origin
   endOf = record { i = m .i + p .len; u = m .u +ℤ sumZ minutes -ℤ p .total }

@@ -3,11 +3,13 @@ use mathlib.Core.Path.{_≡_, refl, sym, _∙_, ap, ap₂}
 use mathlib.Core.List.{List, [], _∷_, map}
 use Prim.Native.Nat.{ℕ, zero, suc, _≤_}
 use native.Mathlib.Omega.{arith}
-use lib.ListN.{length, drop, length-drop, length-map}
+use lib.ListN.{length, take, drop, length-drop, length-map}
 use lib.IntN.{ℤ, pos, _+ℤ_}
 use lib.Signed.{ltZ-yes}
+use Rattle.integers.specs.Laws.{one-*ℤ}
 use Rattle.integers.specs.Order.{_⩽_}
-use Rattle.optimality.specs.Series.{Positive, plain, plain-minute}
+use Rattle.integers.specs.Sums.{sumZ}
+use Rattle.optimality.specs.Series.{Positive, plain, plain-minute, weighted}
 use Rattle.optimality.specs.Segments.{Segment, total-length, Proper, weigh, Weighed, WellFormed, IsLine}
 use Rattle.optimality.specs.Unique.{unique}
 
@@ -21,7 +23,18 @@ pub length-plain : (ys : List ℤ) → length (plain ys) ≡ length ys
 unfolding plain
 length-plain ys = length-map ys plain-minute
 
-drop-plain : (n : ℕ) (ys : List ℤ) → drop n (plain ys) ≡ plain (drop n ys)
+pub plain-weighted : (ys : List ℤ) → weighted (plain ys) ≡ sumZ ys
+unfolding plain sumZ
+plain-weighted [] = refl
+plain-weighted (y ∷ ys) = ap₂ _+ℤ_ (one-*ℤ y) (plain-weighted ys)
+
+pub take-plain : (n : ℕ) (ys : List ℤ) → take n (plain ys) ≡ plain (take n ys)
+unfolding plain
+take-plain zero ys = refl
+take-plain (suc n) [] = refl
+take-plain (suc n) (y ∷ ys) = ap (λ ms. plain-minute y ∷ ms) (take-plain n ys)
+
+pub drop-plain : (n : ℕ) (ys : List ℤ) → drop n (plain ys) ≡ plain (drop n ys)
 unfolding plain
 drop-plain zero ys = refl
 drop-plain (suc n) [] = refl

@@ -2,8 +2,9 @@
 use mathlib.Core.List.{List, [], _∷_, map}
 use Prim.Native.Nat.{ℕ, _<_, _≤_}
 use lib.ListN.{length}
-use lib.IntN.{ℤ, pos, natAbs}
+use lib.IntN.{ℤ, pos, natAbs, _*ℤ_}
 use Rattle.integers.specs.Order.{_⋖_}
+use Rattle.integers.specs.Sums.{sumZ}
 
 pub record Minute : Type 0 where
   pub weight : ℤ
@@ -14,6 +15,10 @@ plain-minute y = record { weight = pos 1; sample = y }
 
 unfoldable pub plain : List ℤ → List Minute
 plain ys = map plain-minute ys
+
+-- the sum of w y
+abbrev pub weighted : List Minute → ℤ
+weighted ms = sumZ (map (λ m. m .weight *ℤ m .sample) ms)
 
 -- every weight is above 0
 unfoldable pub Positive : List Minute → Type 0

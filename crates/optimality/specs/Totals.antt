@@ -1,32 +1,22 @@
 -- The totals of a line add up to the weighted samples plus a − b. Over a scale Q, the last dual is Q a plus each w (Q y − x), and the numerators of a
 -- segment, weighed, are Q times its total.
 use mathlib.Core.Path.{_≡_, refl, sym, _∙_, ap, ap₂}
-use mathlib.Core.List.{List, [], _∷_, _++_, map}
+use mathlib.Core.List.{List, [], _∷_, _++_}
 use Prim.Native.Nat.{ℕ, zero, suc, _<_, _≤_, _/_}
 use native.Mathlib.Omega.{arith}
 use lib.ListN.{length, drop, length-drop, replicate}
 use lib.IntN.{ℤ, pos, _+ℤ_, _*ℤ_, _-ℤ_, *ℤ-zero, +ℤ-idr}
-use Rattle.integers.specs.Laws.{one-*ℤ}
 use Rattle.integers.specs.Order.{_⩽_}
 use Rattle.integers.specs.Ring.{ring, reify}
 use Rattle.integers.specs.Sums.{sumZ}
 use Rattle.integers.specs.Linear.{0⋖pos}
 use Rattle.integers.specs.Products.{*-cancel≡}
-use Rattle.optimality.specs.Series.{Minute, Positive, plain}
+use Rattle.optimality.specs.Series.{Minute, Positive, plain, weighted}
 use Rattle.optimality.specs.Conditions.{after, dual}
 use Rattle.optimality.specs.Segments.{Segment, total-length, weigh, Weighed, IsLine, Scale, numerator, numerators}
 use Rattle.optimality.specs.Scales.{common}
 use Rattle.optimality.specs.Verdict.{of-scale, optimal}
-use Rattle.optimality.specs.Plain.{plain-positive, length-plain, line-totals}
-
--- the sum of w y
-abbrev pub weighted : List Minute → ℤ
-weighted ms = sumZ (map (λ m. m .weight *ℤ m .sample) ms)
-
-plain-weighted : (ys : List ℤ) → weighted (plain ys) ≡ sumZ ys
-unfolding plain sumZ
-plain-weighted [] = refl
-plain-weighted (y ∷ ys) = ap₂ _+ℤ_ (one-*ℤ y) (plain-weighted ys)
+use Rattle.optimality.specs.Plain.{plain-positive, length-plain, plain-weighted, line-totals}
 
 -- the sum of w x
 levels : List Minute → List ℤ → ℤ

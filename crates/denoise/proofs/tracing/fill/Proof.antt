@@ -11,6 +11,7 @@ use mir.Facts.{toZ-ofZ}
 use Rattle.integers.specs.Order.{abs-*}
 use Rattle.integers.specs.Sums.{sumZ}
 use Rattle.integers.specs.Bounds.{cleaning, fit, clean, mul-both}
+use Rattle.optimality.specs.Series.{plain}
 use Rattle.denoise.specs.Dual.{duals-inside}
 use Rattle.denoise.specs.Run.{as-segment}
 use Rattle.denoise.proofs.FillLoop.{Filling, filling-first, filling-turn, steady, sum-end, filled, above-abs}
@@ -99,7 +100,7 @@ returns c =
     let v : toZ w64 (ofZ w64 (toZ w64 (ofZ w64 (p .n)) *ℤ toZ w64 (ofZ w64 (s .args .m .u)))) ≡ pos (natAbs (p .n)) *ℤ s .args .m .u = read-v s ∙ ap (λ n. n *ℤ s .args .m .u) (sym (above-abs (p .n) (s .pre .0 .above))) in
     let read : toZ w64 (ofZ w64 (toZ w64 (ofZ w64 (l .loop .d .u)) -ℤ toZ w64 (ofZ w64 (p .total)))) ≡ l .loop .d .u -ℤ p .total = clean (search cleaning depth 12) tt in
     let u = read ∙ ap (λ u. u -ℤ p .total) (sum-end _ _ _ _ _ K last ∙ ap₂ (λ u n. u +ℤ sumZ (take n rest)) (read-u s) len) in
-    (λ t. record { i = i + p .len; u = u t }, filled _ _ _ _ _ K last ∙ ap₂ (λ v n. sets (s .args .out .now) i (duals-inside (as-segment p) v (take n rest))) v len)
+    (λ t. record { i = i + p .len; u = u t }, filled _ _ _ _ _ K last ∙ ap₂ (λ v n. sets (s .args .out .now) i (duals-inside (as-segment p) v (plain (take n rest)))) v len)
 
 pub fill-spec : {M : Type 1} → statement M
 fill-spec = tie.close (tie.spec Inv-loop μ-loop add-end mul-t9 loop-holds minute-requires mul-v slice-set-from-v loop-less loop-again sub-t9 same-length returns)
