@@ -118,7 +118,8 @@ module _ (n : ℕ) (ns : List ℕ) (ts : List ℤ) (ok : shapeOf n ns ts ≡ giv
       record { number = suc (r .j); segment = seg (r .j); there = seg-given (r .j) (r .is); from = omega (arith, r .from); upto = r .upto }
 
   -- ---- the mark of a minute: the level of its segment, and at the segment's last minute the step to the next, by the exact levels
-  pub mark-within : (j k : ℕ) (s : ChartSegment) → segmentOf n ns ts (suc j) ≡ given s → s .first ≤ k → k < s .last → markOf n ns ts k ≡ given (plain (s .level))
+  pub mark-within : (j k : ℕ) (s : ChartSegment) → segmentOf n ns ts (suc j) ≡ given s → s .first ≤ k → k < s .last →
+      markOf n ns ts k ≡ given (plain (s .level))
   mark-within j k s e =
       let p = given-seg j s e in
       subst (λ (s : ChartSegment). s .first ≤ k → k < s .last → markOf n ns ts k ≡ given (plain (s .level))) (p .1) (λ f g. seg-inside j k (p .0) (omega arith) g)

@@ -23,7 +23,8 @@ use Rattle.chart.specs.Drawable.{sum, nth, Drawable}
 use Rattle.chart.proofs.SumLaws.{sum-next, sum-part}
 
 -- what the shape of a line lets through, by the answer x to it
-pub shaped-is : {A : Type 0} (n : ℕ) (ns : List ℕ) (ts : List ℤ) (y : Answer A) {x : Answer (Unit {0})} → x ≡ shapeOf n ns ts → then x y ≡ refuse-if (eqb n 0) 1 0 (refuse-if (ltb 65536 n) 2 0 (well-shaped n ns ts y))
+pub shaped-is : {A : Type 0} (n : ℕ) (ns : List ℕ) (ts : List ℤ) (y : Answer A) {x : Answer (Unit {0})} → x ≡ shapeOf n ns ts →
+    then x y ≡ refuse-if (eqb n 0) 1 0 (refuse-if (ltb 65536 n) 2 0 (well-shaped n ns ts y))
 shaped-is n ns ts y e = ap (λ x. then x y) e ∙ then-is (if-alike (eqb n 0) 1 0 (if-alike (ltb 65536 n) 2 0 (lists-alike n ns ts pass)))
 
 -- ---- what the shape says of a segment
@@ -33,14 +34,16 @@ sum-is [] ts l = omega arith
 sum-is (n ∷ ns) [] l = absurd (omega arith)
 sum-is (n ∷ ns) (t ∷ ts) l = ap (λ k. n + k) (sum-is ns ts (omega arith))
 
-valid-at : (ns : List ℕ) (ts : List ℤ) → Proper (segments ns ts) → Within 16777216 (segments ns ts) → length ns ≡ length ts → (k : ℕ) → k < length ns → getD ns k 0 ≤ 65536 → Valid (nth ns ts k)
+valid-at : (ns : List ℕ) (ts : List ℤ) → Proper (segments ns ts) → Within 16777216 (segments ns ts) → length ns ≡ length ts → (k : ℕ) → k < length ns →
+    getD ns k 0 ≤ 65536 → Valid (nth ns ts k)
 unfolding Proper Within segments
 valid-at [] ts r w l k h b = absurd (omega arith)
 valid-at (n ∷ ns) [] r w l k h b = absurd (omega arith)
 valid-at (n ∷ ns) (t ∷ ts) r w l zero h b = record { some = r .0; short = b; small = w .0 }
 valid-at (n ∷ ns) (t ∷ ts) r w l (suc k) h b = valid-at ns ts (r .2) (w .1) (omega arith) k (omega arith) b
 
-differ-at : (ns : List ℕ) (ts : List ℤ) → Proper (segments ns ts) → length ns ≡ length ts → (k : ℕ) → suc k < length ns → cross (nth ns ts k) (nth ns ts (suc k)) ≡ cross (nth ns ts (suc k)) (nth ns ts k) → ⊥
+differ-at : (ns : List ℕ) (ts : List ℤ) → Proper (segments ns ts) → length ns ≡ length ts → (k : ℕ) → suc k < length ns →
+    cross (nth ns ts k) (nth ns ts (suc k)) ≡ cross (nth ns ts (suc k)) (nth ns ts k) → ⊥
 unfolding Proper Differs segments
 differ-at [] ts r l k h q = absurd (omega arith)
 differ-at (n ∷ ns) [] r l k h q = absurd (omega arith)

@@ -29,7 +29,8 @@ module _ {A : Type 0} (f : ChartSegment → A) (ns : List ℕ) (ts : List ℤ) (
   left-all h = record { long = refl; rest = sets-refill (parts f ns ts) xs₀ (rw (length-map (segments-from 0 ns ts) f) (omega (arith, length-segments 0 ns ts))) }
 
   -- with the level a of segment k
-  pub left-next : (xs : List A) (before k : ℕ) (a : Level) {v : A} → k < length ns → length ns ≡ length ts → a ≡ nth ns ts k → v ≡ f (after before a) → Left xs before k → Left (set xs k v) (before + a .length) (k + 1)
+  pub left-next : (xs : List A) (before k : ℕ) (a : Level) {v : A} → k < length ns → length ns ≡ length ts → a ≡ nth ns ts k → v ≡ f (after before a) →
+      Left xs before k → Left (set xs k v) (before + a .length) (k + 1)
   unfolding segments-from
   left-next xs before k a h l e q p =
       let g : k < length ts = omega arith in

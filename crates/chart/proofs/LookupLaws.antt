@@ -18,14 +18,16 @@ use Rattle.chart.specs.Whole.{after}
 use Rattle.chart.proofs.SumLaws.{sum-next}
 
 -- ---- segments
-found-at : (ns : List ℕ) (ts : List ℤ) (k b m : ℕ) → k < length ns → length ns ≡ length ts → m ≡ b + sum (take k ns) → segment-at b ns ts (suc k) ≡ some (after m (nth ns ts k))
+found-at : (ns : List ℕ) (ts : List ℤ) (k b m : ℕ) → k < length ns → length ns ≡ length ts → m ≡ b + sum (take k ns) →
+    segment-at b ns ts (suc k) ≡ some (after m (nth ns ts k))
 unfolding segment-at sum
 found-at [] ts k b m h l e = absurd (omega arith)
 found-at (n ∷ ns) [] k b m h l e = absurd (omega arith)
 found-at (n ∷ ns) (t ∷ ts) zero b m h l e = let f : m ≡ b = omega arith in rw f
 found-at (n ∷ ns) (t ∷ ts) (suc k) b m h l e = found-at ns ts k (b + n) m (omega arith) (omega arith) (omega arith)
 
-pub segment-found : (ns : List ℕ) (ts : List ℤ) (k : ℕ) → k < length ns → length ns ≡ length ts → segment-at 0 ns ts (suc k) ≡ some (after (sum (take k ns)) (nth ns ts k))
+pub segment-found : (ns : List ℕ) (ts : List ℤ) (k : ℕ) → k < length ns → length ns ≡ length ts →
+    segment-at 0 ns ts (suc k) ≡ some (after (sum (take k ns)) (nth ns ts k))
 segment-found ns ts k h l = found-at ns ts k 0 (sum (take k ns)) h l (omega arith)
 
 pub segment-lacks : (ns : List ℕ) (ts : List ℤ) (b j : ℕ) → length ns < j → segment-at b ns ts j ≡ none

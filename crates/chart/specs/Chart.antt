@@ -1,5 +1,5 @@
 -- The chart of a line (RULES 7.1 to 7.5): refusals 1, 2, 6, 7, 8 as the shape of a line has them, then 13.
-use mathlib.Core.Bool.{Bool, true, false, cond}
+use mathlib.Core.Bool.{cond}
 use mathlib.Core.List.{List, [], _∷_}
 use mathlib.Core.Option.{Option, none, some}
 use Prim.Native.Nat.{ℕ, zero, suc, _+_, _-_}
@@ -50,20 +50,17 @@ segment-at before (n ∷ ns) (t ∷ ts) (suc (suc j)) = segment-at (before + n) 
 abbrev pub step : Level → List ℕ → List ℤ → Shown
 step a [] ts = plain (nearestTo a)
 step a (n ∷ ns) [] = plain (nearestTo a)
-step a (n ∷ ns) (t ∷ ts) = cond (ltZ (cross a (level n t)) (cross (level n t) a)) (rise (nearestTo a) (nearestTo (level n t))) (fall (nearestTo a) (nearestTo (level n t)))
-
-abbrev pub pick : {A : Type 0} → Bool → A → A → A
-pick true x y = x
-pick false x y = y
+step a (n ∷ ns) (t ∷ ts) =
+    cond (ltZ (cross a (level n t)) (cross (level n t) a)) (rise (nearestTo a) (nearestTo (level n t))) (fall (nearestTo a) (nearestTo (level n t)))
 
 -- minute k: inside a segment its level, at a segment's last minute the step
 unfoldable pub mark-at : List ℕ → List ℤ → ℕ → Option Shown
 mark-at [] ts k = none
 mark-at (n ∷ ns) [] k = none
 mark-at (n ∷ ns) (t ∷ ts) k =
-    pick (eqb k 0) none
-    (pick (ltb k n) (some (plain (nearestTo (level n t))))
-    (pick (eqb k n) (some (step (level n t) ns ts)) (mark-at ns ts (k - n))))
+    cond (eqb k 0) none
+    (cond (ltb k n) (some (plain (nearestTo (level n t))))
+    (cond (eqb k n) (some (step (level n t) ns ts)) (mark-at ns ts (k - n))))
 
 -- what the line lacks gets 13
 abbrev pub or-13 : {A : Type 0} → Option A → Answer A

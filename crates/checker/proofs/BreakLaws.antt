@@ -41,7 +41,8 @@ unfoldable pub from-turn : (L : ℤ) → ℕ → List Minute → Segment → ℤ
 from-turn L i ms s v [] = test (between (pos 0) v (pos 0)) i none
 from-turn L i ms s v (t ∷ ss) = test (between (by-divisor s (side L s t)) v (by-divisor s (side L s t))) i (break-from L (pos 0) (suc i) ms t (by-divisor t (side L s t)) (t .len) ss)
 
-last-minute : (L : ℤ) (i : ℕ) (m : Minute) (ms : List Minute) (s : Segment) (v : ℤ) (ss : List Segment) → break-from L (pos 0) i (m ∷ ms) s v 1 ss ≡ from-turn L i ms s (then-v s v m) ss
+last-minute : (L : ℤ) (i : ℕ) (m : Minute) (ms : List Minute) (s : Segment) (v : ℤ) (ss : List Segment) →
+    break-from L (pos 0) i (m ∷ ms) s v 1 ss ≡ from-turn L i ms s (then-v s v m) ss
 unfolding break-from from-turn
 last-minute L i m ms s v [] = ap (λ x. test (between x (then-v s v m) x) i none) (*ℤ-zero (pos (s .divisor)))
 last-minute L i m ms s v (t ∷ ss) = refl
@@ -74,7 +75,9 @@ module _ (L : ℕ) (ys : List ℤ) where
       unfolding break-from plain
       held-told d n i = go (between (sideOf L true (t .length)) (moved d .v) (sideOf L false (t .length)))
         where
-          go : (b : Bool) → told t (unless-stopped (cond b (moved d) (failed (moved d))) (alongOf L ys t (cond b (moved d) (failed (moved d))) (suc n))) ss ≡ test b (suc (d .at)) (breaks (moved d) (suc n) (drop (suc (d .at)) ys))
+          go : (b : Bool) →
+              told t (unless-stopped (cond b (moved d) (failed (moved d))) (alongOf L ys t (cond b (moved d) (failed (moved d))) (suc n))) ss ≡ test b
+              (suc (d .at)) (breaks (moved d) (suc n) (drop (suc (d .at)) ys))
           go true = i
           go false = told-stop t (failed (moved d)) _ ss (omega arith)
 
@@ -92,7 +95,8 @@ module _ (L : ℕ) (ys : List ℤ) where
           ∙ ap (breaks d (suc (suc n))) (sym (drop-cons ys (d .at) (pos 0) k))
 
       -- a whole segment, from e, where no guard of the walk refuses it
-      ahead-told : (e : Progress) → e .stop ≡ 0 → 0 < t .length → e .at + t .length ≤ length ys → told t (proceedOf L ys t e) ss ≡ breaks e (t .length) (drop (e .at) ys)
+      ahead-told : (e : Progress) → e .stop ≡ 0 → 0 < t .length → e .at + t .length ≤ length ys →
+          told t (proceedOf L ys t e) ss ≡ breaks e (t .length) (drop (e .at) ys)
       ahead-told e z p h =
           let n : t .length ≡ suc (t .length - 1) = omega arith in
           rw (le-ltb 0 (e .stop) (omega arith), le-ltb (length ys) (e .at) (omega arith), le-ltb (length ys - e .at) (t .length) (omega arith))
@@ -104,7 +108,8 @@ module _ (L : ℕ) (ys : List ℤ) where
       followed-is d s t z = rw (le-ltb 0 (d .stop) (omega arith), le-ltb 65536 (length ys) few, le-ltb 1099511627776 L smooth)
 
       module _ (d : Progress) (s t : Level) (z : d .stop ≡ 0) (on : 0 < d .at) (p : 0 < t .length) (room : d .at + t .length ≤ length ys) (ss : List Segment) where
-        turned-told : (rising : Bool) → side (pos L) (segment s) (segment t) ≡ cond rising (negℤ (pos L)) (pos L) → told t (proceedOf L ys t (turnedOf L rising d s t)) ss ≡ told s d (segment t ∷ ss)
+        turned-told : (rising : Bool) → side (pos L) (segment s) (segment t) ≡ cond rising (negℤ (pos L)) (pos L) →
+            told t (proceedOf L ys t (turnedOf L rising d s t)) ss ≡ told s d (segment t ∷ ss)
         unfolding from-turn
         turned-told rising q = rw (le-ltb 0 (d .stop) (omega arith), q) (go (between (sideOf L rising (s .length)) (d .v) (sideOf L rising (s .length))))
           where
@@ -125,7 +130,8 @@ module _ (L : ℕ) (ys : List ℤ) where
             (λ (r : (cross t s ⋖ cross s t) × (compareOf s t ≡ given (pos 1))). crossing (r .1) ∙ turned-told false (rw (lt-no (⋖→⩽ (r .0))))))
             (total s t v v′)
           where
-            crossing : {x : ℤ} → compareOf s t ≡ given x → told t (proceedOf L ys t (crossed L (compareOf s t) d s t)) ss ≡ told t (proceedOf L ys t (crossed L (given x) d s t)) ss
+            crossing : {x : ℤ} → compareOf s t ≡ given x →
+                told t (proceedOf L ys t (crossed L (compareOf s t) d s t)) ss ≡ told t (proceedOf L ys t (crossed L (given x) d s t)) ss
             crossing e = ap (λ a. told t (proceedOf L ys t (crossed L a d s t)) ss) e
 
       -- ---- along a line
@@ -139,10 +145,12 @@ module _ (L : ℕ) (ys : List ℤ) where
       abbrev Reached : Progress → List Segment → Type 0
       Reached d ss = d .stop ≡ 0 → (0 < d .at) × (d .at + total-length ss ≡ length ys)
 
-      reached : (d : Progress) (s t : Level) (ss : List Segment) → d .stop ≡ 0 → d .at + (t .length + total-length ss) ≡ length ys → 0 < t .length → Reached (followedOf L ys d s t) ss
+      reached : (d : Progress) (s t : Level) (ss : List Segment) → d .stop ≡ 0 → d .at + (t .length + total-length ss) ≡ length ys → 0 < t .length →
+          Reached (followedOf L ys d s t) ss
       reached d s t ss z h p k = let e = followed-passed L ys d s t .far k in (omega arith, omega arith)
 
-      walk-told : (ns : List ℕ) (ts : List ℤ) → length ns ≡ length ts → (w : Walk) (i j : ℕ) → Reached (w .dual) (segments ns ts) → Valid (w .outline .last) → AllValid ns ts →
+      walk-told : (ns : List ℕ) (ts : List ℤ) → length ns ≡ length ts → (w : Walk) (i j : ℕ) → Reached (w .dual) (segments ns ts) →
+          Valid (w .outline .last) → AllValid ns ts →
           equal-from j (segment (w .outline .last) ∷ segments ns ts) ≡ none → broken (walkOf L ys w i ns ts .dual) ≡ told (w .outline .last) (w .dual) (segments ns ts)
       unfolding walkOf segments from-turn AllValid equal-from total-length
       walk-told [] ts l w i j r v f u = refl
@@ -158,7 +166,8 @@ module _ (L : ℕ) (ys : List ℤ) where
           (eq-zero-or-pos (w .dual .stop))
 
       -- ---- of a whole line
-      pub walk-breaks : (ns : List ℕ) (ts : List ℤ) → paired (length ns) (length ts) ≡ true → Outlined (length ys) ns ts → broken (walkOf L ys walk-start 1 ns ts .dual) ≡ first-break (pos L) (pos 0) (pos 0) (plain ys) (segments ns ts)
+      pub walk-breaks : (ns : List ℕ) (ts : List ℤ) → paired (length ns) (length ts) ≡ true → Outlined (length ys) ns ts →
+          broken (walkOf L ys walk-start 1 ns ts .dual) ≡ first-break (pos L) (pos 0) (pos 0) (plain ys) (segments ns ts)
       unfolding walkOf segments first-break AllValid total-length
       walk-breaks [] ts p q = absurd (true≢false (sym p))
       walk-breaks (n ∷ ns) [] p q = absurd (omega (arith, pair (suc (length ns)) 0 (not-true _ p)))

@@ -102,7 +102,9 @@ module _ (ys : List ℤ) (L : ℕ) (ns : List ℕ) (ts : List ℤ) where
           passes↔ .1 (h .0, ap length (h .1) ∙ same ∙ sym (ap length (h .2)), subst (λ s. IsLine (pos L) (pos 0) (pos 0) (plain ys) s) (formed-lists ys l (c .formed) ∙ sym (ap₂ segments (h .1) (h .2))) c)
 
   -- ---- 9 is at the first minute that breaks (6) or (7), at every scale
-  pub nine↔ : (k : ℕ) → (checkOf ys L ns ts ≡ refused 9 k) ↔ (Proposed × ((Q : ℕ) → 0 < Q → Scale Q ss → FirstBreak (pos Q) (pos L) (pos 0) (pos 0) (plain ys) (numerators Q ss) k))
+  pub nine↔ : (k : ℕ) →
+      (checkOf ys L ns ts ≡ refused 9 k) ↔ (Proposed × ((Q : ℕ) → 0 < Q → Scale Q ss →
+      FirstBreak (pos Q) (pos L) (pos 0) (pos 0) (plain ys) (numerators Q ss) k))
   nine↔ k = (go, back)
     where
       later : (number place : ℕ) → number < 9 → _≡_ {A = Answer (Unit {0})} (refused number place) (refused 9 k) → ⊥
@@ -112,12 +114,14 @@ module _ (ys : List ℤ) (L : ℕ) (ns : List ℕ) (ts : List ℤ) where
       found-at (some j) e = let q : j ≡ k = cc in ap some q
       found-at none e = never (sym e)
 
-      go : checkOf ys L ns ts ≡ refused 9 k → Proposed × ((Q : ℕ) → 0 < Q → Scale Q ss → FirstBreak (pos Q) (pos L) (pos 0) (pos 0) (plain ys) (numerators Q ss) k)
+      go : checkOf ys L ns ts ≡ refused 9 k →
+          Proposed × ((Q : ℕ) → 0 < Q → Scale Q ss → FirstBreak (pos Q) (pos L) (pos 0) (pos 0) (plain ys) (numerators Q ss) k)
       go e =
           let r = reaches (refused 9 k) later e in
           (r .0, λ Q q z. some↔breaks (pos L) (pos 0) (pos 0) (plain ys) ss (0⩽pos L) (r .0 .formed) Q q z k .0 (found-at (first-break (pos L) (pos 0) (pos 0) (plain ys) ss) (r .1)))
 
-      back : Proposed × ((Q : ℕ) → 0 < Q → Scale Q ss → FirstBreak (pos Q) (pos L) (pos 0) (pos 0) (plain ys) (numerators Q ss) k) → checkOf ys L ns ts ≡ refused 9 k
+      back : Proposed × ((Q : ℕ) → 0 < Q → Scale Q ss → FirstBreak (pos Q) (pos L) (pos 0) (pos 0) (plain ys) (numerators Q ss) k) →
+          checkOf ys L ns ts ≡ refused 9 k
       back h =
           let f = h .0 .formed in
           let c = common (plain ys) ss ss (plain-positive ys) f f in

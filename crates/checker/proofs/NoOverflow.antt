@@ -64,7 +64,8 @@ module _ (L : ℕ) (d : Progress) (s t : Level) where
   abbrev Enters : Progress → Type 0
   Enters e = Valid t × (natAbs (e .v) ≤ t .length * L)
 
-  opens : (a : Answer Level) → makeOf (t .length) (t .total) ≡ a → let e = on-success a (record { at = d .at; v = pos 0; stop = 0 }) (halted d) in e .stop ≡ 0 → Enters e
+  opens : (a : Answer Level) → makeOf (t .length) (t .total) ≡ a → let e = on-success a (record { at = d .at; v = pos 0; stop = 0 }) (halted d) in
+      e .stop ≡ 0 → Enters e
   opens (refused number place) p h = absurd (omega arith)
   opens (given x) p h = (valid-made t x p, omega arith)
 

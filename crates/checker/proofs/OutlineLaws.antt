@@ -49,7 +49,8 @@ or-noted zero false i rest = refl
 or-noted (suc k) hit i rest = rw (lt-ltb 0 (suc k) (omega arith))
 
 -- ---- 6
-zeros : (ns : List ℕ) (ts : List ℤ) → length ns ≡ length ts → (o : Outline) (i : ℕ) → place-of (outlineOf o (suc i) ns ts .zero) ≡ or (place-of (o .zero)) (first-from empty (suc i) (segments ns ts))
+zeros : (ns : List ℕ) (ts : List ℤ) → length ns ≡ length ts → (o : Outline) (i : ℕ) →
+    place-of (outlineOf o (suc i) ns ts .zero) ≡ or (place-of (o .zero)) (first-from empty (suc i) (segments ns ts))
 unfolding outlineOf first-from segments
 zeros [] ts l o i = or-none (place-of (o .zero))
 zeros (n ∷ ns) [] l o i = absurd (omega arith)
@@ -67,7 +68,8 @@ stays n s m r h = go (ltb 65536 s) refl
         ne-eqb _ _ p ∙ sym (ne-eqb _ _ q)
     go false e = ap (λ x. eqb x n) (omega arith)
 
-sums : (n : ℕ) → n ≤ 65536 → (ns : List ℕ) (ts : List ℤ) → length ns ≡ length ts → (o : Outline) (i : ℕ) → eqb (outlineOf o i ns ts .sum) n ≡ eqb (o .sum + total-length (segments ns ts)) n
+sums : (n : ℕ) → n ≤ 65536 → (ns : List ℕ) (ts : List ℤ) → length ns ≡ length ts → (o : Outline) (i : ℕ) →
+    eqb (outlineOf o i ns ts .sum) n ≡ eqb (o .sum + total-length (segments ns ts)) n
 unfolding outlineOf total-length segments
 sums n h [] ts l o i = ap (λ x. eqb x n) (omega arith)
 sums n h (m ∷ ns) [] l o i = absurd (omega arith)
@@ -78,7 +80,8 @@ Short : List ℕ → Type 0
 Short [] = Unit {0}
 Short (n ∷ ns) = (0 < n) × (n ≤ 65536) × Short ns
 
-short : (ns : List ℕ) (ts : List ℤ) (i : ℕ) → length ns ≡ length ts → first-from empty i (segments ns ts) ≡ none → total-length (segments ns ts) ≤ 65536 → Short ns
+short : (ns : List ℕ) (ts : List ℤ) (i : ℕ) → length ns ≡ length ts → first-from empty i (segments ns ts) ≡ none → total-length (segments ns ts) ≤ 65536 →
+    Short ns
 unfolding Short first-from total-length segments
 short [] ts i l e h = tt
 short (n ∷ ns) [] i l e h = absurd (omega arith)
@@ -92,7 +95,8 @@ over-is t h k = let z : t .length ≡ 0 → ⊥ = λ e. omega arith in rw (ne-eq
     go true = refl
     go false = refl
 
-beyonds : (ns : List ℕ) (ts : List ℤ) → length ns ≡ length ts → Short ns → (o : Outline) (i : ℕ) → place-of (outlineOf o (suc i) ns ts .beyond) ≡ or (place-of (o .beyond)) (first-from beyond (suc i) (segments ns ts))
+beyonds : (ns : List ℕ) (ts : List ℤ) → length ns ≡ length ts → Short ns → (o : Outline) (i : ℕ) →
+    place-of (outlineOf o (suc i) ns ts .beyond) ≡ or (place-of (o .beyond)) (first-from beyond (suc i) (segments ns ts))
 unfolding outlineOf first-from segments Short
 beyonds [] ts l s o i = or-none (place-of (o .beyond))
 beyonds (n ∷ ns) [] l s o i = absurd (omega arith)
@@ -123,7 +127,8 @@ alike-is s t h k =
     (λ (r : (cross t s ⋖ cross s t) × (compareOf s t ≡ given (pos 1))). ap is-zero (r .1) ∙ sym (higher (segment s) (segment t) (r .0))))
     (total s t h k)
 
-equals : (ns : List ℕ) (ts : List ℤ) → length ns ≡ length ts → (o : Outline) (i : ℕ) → Valid (o .last) → AllValid ns ts → place-of (outlineOf o (suc i) ns ts .equal) ≡ or (place-of (o .equal)) (equal-from i (segment (o .last) ∷ segments ns ts))
+equals : (ns : List ℕ) (ts : List ℤ) → length ns ≡ length ts → (o : Outline) (i : ℕ) → Valid (o .last) → AllValid ns ts →
+    place-of (outlineOf o (suc i) ns ts .equal) ≡ or (place-of (o .equal)) (equal-from i (segment (o .last) ∷ segments ns ts))
 unfolding outlineOf equal-from segments AllValid
 equals [] ts l o i v f = or-none (place-of (o .equal))
 equals (n ∷ ns) [] l o i v f = absurd (omega arith)
@@ -150,7 +155,8 @@ module _ (n : ℕ) (ns : List ℕ) (ts : List ℤ) where
     pub long : total-length (segments ns ts) ≡ n
     pub unequal : equal-from 1 (segments ns ts) ≡ none
 
-  pub verdict-is : n ≤ 65536 → paired (length ns) (length ts) ≡ true → {A : Type 0} (x y : Answer A) → (Outlined → x ≡ y) → verdictOf n (outlineOf begin 1 ns ts) x ≡ well-shaped n ns ts y
+  pub verdict-is : n ≤ 65536 → paired (length ns) (length ts) ≡ true → {A : Type 0} (x y : Answer A) → (Outlined → x ≡ y) →
+      verdictOf n (outlineOf begin 1 ns ts) x ≡ well-shaped n ns ts y
   unfolding or
   verdict-is h p x y k =
       let m = not-true _ p in

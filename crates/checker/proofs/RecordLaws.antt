@@ -26,7 +26,8 @@ module _ (L : ℕ) (ys : List ℤ) (ss : List Segment) where
   abbrev pub left : ℕ → Walk → Walk
   left k w = walkOf L ys w (suc k) (lengths-of (drop k ss)) (totals-of (drop k ss))
 
-  pub turn : (k : ℕ) (w r : Walk) → k < length ss → r ≡ stepOf L ys w (level-of (getD ss k nil)) (k + 1) → left k w ≡ left 0 walk-start → left (k + 1) r ≡ left 0 walk-start
+  pub turn : (k : ℕ) (w r : Walk) → k < length ss → r ≡ stepOf L ys w (level-of (getD ss k nil)) (k + 1) → left k w ≡ left 0 walk-start →
+      left (k + 1) r ≡ left 0 walk-start
   unfolding walkOf
   turn k w r h e i = rw (add-one k, e ∙ ap (stepOf L ys w (level-of (getD ss k nil))) (add-one k)) (rw (drop-cons ss k nil h) at i)
 
@@ -37,7 +38,8 @@ module _ (L : ℕ) (ys : List ℤ) (ss : List Segment) where
 two : (a b : ℕ) → a ≡ b → paired (suc a) (suc b) ≡ true
 two a b e = let n : suc a ≡ 0 → ⊥ = λ q. omega arith in rw (ne-eqb (suc a) 0 n, eq-eqb (suc a) (suc b) (ap suc e))
 
-pub run-is : (L : ℕ) (ys : List ℤ) (ss : List Segment) → concludeOf ys L (ltb 0 (length ss)) (walkOf L ys walk-start 1 (lengths-of ss) (totals-of ss)) ≡ checkOf ys L (lengths-of ss) (totals-of ss)
+pub run-is : (L : ℕ) (ys : List ℤ) (ss : List Segment) →
+    concludeOf ys L (ltb 0 (length ss)) (walkOf L ys walk-start 1 (lengths-of ss) (totals-of ss)) ≡ checkOf ys L (lengths-of ss) (totals-of ss)
 unfolding walkOf
 run-is L ys [] = unpaired-is ys L [] [] refl
 run-is L ys (s ∷ ss) =

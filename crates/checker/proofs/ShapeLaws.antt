@@ -72,7 +72,8 @@ pub record Shaped (n : ℕ) (ss : List Segment) : Type 0 where
   pub totals : Within 16777216 ss
 
 module _ (n : ℕ) (ss : List Segment) where
-  pub shaped-past : {A : Type 0} {x a : Answer A} → ((number place : ℕ) → number < 9 → refused number place ≡ a → ⊥) → line-shaped n ss x ≡ a → Shaped n ss × (x ≡ a)
+  pub shaped-past : {A : Type 0} {x a : Answer A} → ((number place : ℕ) → number < 9 → refused number place ≡ a → ⊥) → line-shaped n ss x ≡ a →
+      Shaped n ss × (x ≡ a)
   shaped-past r e =
       let z = at-past (first empty ss) (λ p. r 6 p (omega arith)) e in
       let m = if-past (not (eqb (total-length ss) n)) (r 6 0 (omega arith)) (z .1) in

@@ -27,29 +27,31 @@ use Rattle.sheet.proofs.SheetRefusals.{accepted-alike}
 use Rattle.sheet.proofs.ReadLaws.{in-order, own-lists}
 use Rattle.sheet.proofs.CompleteLaws.{Completed}
 use Rattle.sheet.proofs.CompleteLaws as CompleteLaws
-use Rattle.complete_sheet.specs.Report.{too-long, line-text, line-shown, refusal, answer-text, no-samples, no-lengths, no-totals, reportOf}
+use Rattle.complete_sheet.specs.Report.{too-long, line-text, line-shown, refusal, answer-text, zero-samples, zero-lengths, zero-totals, reportOf}
 
 module _ (s : List ℕ) where
   pub report-too-long : 16416 < length s → reportOf s ≡ too-long
   unfolding reportOf
   report-too-long h = rw (lt-ltb 16416 (length s) h)
 
-  pub by-reading : (answer : Answer Fields) → length s ≤ 16416 → readOf s no-samples no-lengths no-totals ≡ answer → reportOf s ≡ answer-text s answer
+  pub by-reading : (answer : Answer Fields) → length s ≤ 16416 → readOf s zero-samples zero-lengths zero-totals ≡ answer → reportOf s ≡ answer-text s answer
   unfolding reportOf
   by-reading answer h e = rw (le-ltb 16416 (length s) h) (ap (answer-text s) e)
 
   -- ---- a sheet sent back, in the reader's order
-  sent-back : (ys : List ℤ) (ns : List ℕ) (ts : List ℤ) (number place : ℕ) → accepted s passing ≡ refused number place → readOf s ys ns ts ≡ refused number place
+  sent-back : (ys : List ℤ) (ns : List ℕ) (ts : List ℤ) (number place : ℕ) → accepted s passing ≡ refused number place →
+      readOf s ys ns ts ≡ refused number place
   sent-back ys ns ts number place e = stopped (accepted-alike s) e
 
   pub report-refused : (number place : ℕ) → length s ≤ 16416 → accepted s passing ≡ refused number place → reportOf s ≡ refusal number place
   unfolding answer-text
-  report-refused number place h e = by-reading (refused number place) h (sent-back no-samples no-lengths no-totals number place e)
+  report-refused number place h e = by-reading (refused number place) h (sent-back zero-samples zero-lengths zero-totals number place e)
 
   -- ---- a sheet that is accepted
   module _ (e : accepted s passing ≡ passing) where
     module _ (ys : List ℤ) (ns : List ℕ) (ts : List ℤ) (a : length ys ≡ 1024) (b : length ns ≡ 1024) (c : length ts ≡ 1024) where
-      room-tested : readOf s ys ns ts ≡ refuse-if (ltb (length ys) (minutes s) || (ltb (length ns) (minutes s) || ltb (length ts) (minutes s))) 5 0 (given (fields s))
+      room-tested : readOf s ys ns ts ≡ refuse-if (ltb (length ys) (minutes s) || (ltb (length ns) (minutes s) || ltb (length ts) (minutes s))) 5 0
+          (given (fields s))
       room-tested = passed (accepted-alike s) e .1
 
       many : 1024 < minutes s → readOf s ys ns ts ≡ refused 5 0
@@ -60,7 +62,7 @@ module _ (s : List ℕ) where
 
     pub report-many : length s ≤ 16416 → 1024 < minutes s → reportOf s ≡ refusal 5 0
     unfolding answer-text
-    report-many h m = by-reading (refused 5 0) h (many no-samples no-lengths no-totals refl refl refl m)
+    report-many h m = by-reading (refused 5 0) h (many zero-samples zero-lengths zero-totals refl refl refl m)
 
     module _ (m : minutes s ≤ 1024) where
       short : length s ≤ 16416
@@ -68,7 +70,7 @@ module _ (s : List ℕ) where
 
       pub report-line : reportOf s ≡ line-shown (minutes s) (smoothing s) (samples s)
       unfolding answer-text
-      report-line = by-reading (given (fields s)) short (read no-samples no-lengths no-totals refl refl refl m)
+      report-line = by-reading (given (fields s)) short (read zero-samples zero-lengths zero-totals refl refl refl m)
 
       -- its own line, where it has one
       pub report-own : 0 < segment-count s → reportOf s ≡ line-text (minutes s) (smoothing s) (lengths s) (totals s)

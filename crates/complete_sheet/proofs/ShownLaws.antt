@@ -15,7 +15,7 @@ use Rattle.layout.specs.Format.{samples}
 use Rattle.sheet.specs.Read.{readOf}
 use Rattle.sheet.specs.Complete.{Has}
 use Rattle.layout.specs.declared.Fields.{Fields}
-use Rattle.complete_sheet.specs.Report.{too-long, line-text, line-shown, refusal, answer-text, no-samples, no-lengths, no-totals, reportOf}
+use Rattle.complete_sheet.specs.Report.{too-long, line-text, line-shown, refusal, answer-text, zero-samples, zero-lengths, zero-totals, reportOf}
 use Rattle.complete_sheet.proofs.ReportLaws.{report-too-long, by-reading}
 
 -- l is s with text on its first bytes, which are r
@@ -32,7 +32,8 @@ module _ (s : List ℕ) (answer : Answer Fields) (out : List ℕ) {out′ : List
   unfolding answer-text
   refused-shown number place e b = rw e b
 
-  pub given-shown : (f : Fields) (ys : List ℤ) → answer ≡ given f → ys ≡ samples s → Begins out (line-shown (f .minutes) (f .smoothing) ys) r out′ → Begins out (answer-text s answer) r out′
+  pub given-shown : (f : Fields) (ys : List ℤ) → answer ≡ given f → ys ≡ samples s → Begins out (line-shown (f .minutes) (f .smoothing) ys) r out′ →
+      Begins out (answer-text s answer) r out′
   unfolding answer-text
   given-shown f ys e p b = rw e (rw p at b)
 
@@ -55,6 +56,6 @@ module _ (s out : List ℕ) (r : ℕ) (out′ : List ℕ) (same : length out′ 
   pub long-shown : 16416 < length s → Begins out too-long r out′ → Reported
   long-shown h = reported too-long (report-too-long s h)
 
-  pub short-shown : length s ≤ 16416 → (ys : List ℤ) (ns : List ℕ) (ts : List ℤ) → ys ≡ no-samples → ns ≡ no-lengths → ts ≡ no-totals
+  pub short-shown : length s ≤ 16416 → (ys : List ℤ) (ns : List ℕ) (ts : List ℤ) → ys ≡ zero-samples → ns ≡ zero-lengths → ts ≡ zero-totals
       → Begins out (answer-text s (readOf s ys ns ts)) r out′ → Reported
   short-shown h ys ns ts p q t = reported (answer-text s (readOf s ys ns ts)) (by-reading s (readOf s ys ns ts) h (rw (p, q, t)))

@@ -12,4 +12,5 @@ pub record Ready (ys : List ℤ) (L m : ℕ) (ns : List ℕ) (ts : List ℤ) : T
   pub limited : Limited ys L
   pub lengths-room : length ys ≤ length ns
   pub totals-room : length ys ≤ length ts
-  pub own : 0 < m → (m ≡ length (plain-line (pos L) ys)) × ((take m ns ≡ line-lengths (plain-line (pos L) ys)) × (take m ts ≡ line-totals (plain-line (pos L) ys)))
+  pub own : 0 < m →
+      (m ≡ length (plain-line (pos L) ys)) × ((take m ns ≡ line-lengths (plain-line (pos L) ys)) × (take m ts ≡ line-totals (plain-line (pos L) ys)))

@@ -77,15 +77,15 @@ answer-text s (refused number place) = refusal number place
 answer-text s (given f) = line-shown (f .minutes) (f .smoothing) (samples s)
 
 -- the program's lists, before a sheet is read
-abbrev pub no-samples : List ℤ
-no-samples = replicate 1024 (pos 0)
+abbrev pub zero-samples : List ℤ
+zero-samples = replicate 1024 (pos 0)
 
-abbrev pub no-lengths : List ℕ
-no-lengths = replicate 1024 0
+abbrev pub zero-lengths : List ℕ
+zero-lengths = replicate 1024 0
 
-abbrev pub no-totals : List ℤ
-no-totals = replicate 1024 (pos 0)
+abbrev pub zero-totals : List ℤ
+zero-totals = replicate 1024 (pos 0)
 
 -- no sheet of 1,024 minutes is longer than 16,416 bytes
 unfoldable pub reportOf : List ℕ → List ℕ
-reportOf s = cond (ltb 16416 (length s)) too-long (answer-text s (readOf s no-samples no-lengths no-totals))
+reportOf s = cond (ltb 16416 (length s)) too-long (answer-text s (readOf s zero-samples zero-lengths zero-totals))

@@ -89,7 +89,8 @@ module _ (ys : List ℤ) (smoothing : ℕ) where
       pub count-end : m + 1 ≡ length line
       count-end = omega (arith, K .count, ap length (S .rest))
 
-      end : {A : Type 0} (f : Segment → A) (xs₀ xs : List A) → length ys ≤ length xs₀ → Left f xs₀ xs m r → set xs m (f (as-segment p)) ≡ refill (map f line) xs₀
+      end : {A : Type 0} (f : Segment → A) (xs₀ xs : List A) → length ys ≤ length xs₀ → Left f xs₀ xs m r →
+          set xs m (f (as-segment p)) ≡ refill (map f line) xs₀
       end f xs₀ xs h L = sym (ap (λ l. sets xs m (map f l)) (S .rest)) ∙ L ∙ sets-refill (map f line) xs₀ (rw (length-map line f) (omega (arith, count-end, K .few, K .short)))
 
       pub lengths-end : length ys ≤ length lengths₀ → set lengths m (p .len) ≡ refill (line-lengths line) lengths₀

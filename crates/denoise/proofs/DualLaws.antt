@@ -28,7 +28,8 @@ Agree Q U (m ∷ ms) (x ∷ xs) (c ∷ cs) [] = ⊥
 Agree Q U (m ∷ ms) (x ∷ xs) [] ds = ⊥
 Agree Q U (m ∷ ms) [] cs ds = ⊥
 
-at : (Q U : ℤ) (ms : List Minute) (xs : List ℤ) (cs : List ℕ) (ds : List ℤ) → Agree Q U ms xs cs ds → (k : ℕ) → k < length ms → pos (getD cs k 0) *ℤ getD ds k (pos 0) ≡ dual Q U ms xs (suc k)
+at : (Q U : ℤ) (ms : List Minute) (xs : List ℤ) (cs : List ℕ) (ds : List ℤ) → Agree Q U ms xs cs ds → (k : ℕ) → k < length ms →
+    pos (getD cs k 0) *ℤ getD ds k (pos 0) ≡ dual Q U ms xs (suc k)
 unfolding Agree dual
 at Q U [] xs cs ds h k l = absurd (omega arith)
 at Q U (m ∷ ms) (x ∷ xs) (c ∷ cs) (d ∷ ds) h zero l = h .0
@@ -72,7 +73,8 @@ module _ (Q : ℤ) (q : ℕ) (s : Segment) (scale : pos (s .divisor) *ℤ pos q 
   begin : (v : ℤ) → v ≡ d *ℤ u → pos q *ℤ v ≡ Q *ℤ u
   begin v e = ap (λ x. pos q *ℤ x) e ∙ regroup (pos q) d u ∙ ap (λ x. x *ℤ u) scale
 
-  along : (n : ℕ) (v : ℤ) (ms : List Minute) → n ≤ length ms → v +ℤ d *ℤ weighted (take n ms) -ℤ weigh n ms *ℤ s .total ≡ d *ℤ u → Agree Q (Q *ℤ u) (drop n ms) xs cs ds →
+  along : (n : ℕ) (v : ℤ) (ms : List Minute) → n ≤ length ms → v +ℤ d *ℤ weighted (take n ms) -ℤ weigh n ms *ℤ s .total ≡ d *ℤ u →
+      Agree Q (Q *ℤ u) (drop n ms) xs cs ds →
       Agree Q (pos q *ℤ v) ms (replicate n (s .total *ℤ pos q) ++ xs) (replicate n q ++ cs) (duals-inside s v (take n ms) ++ ds)
   unfolding Agree duals-inside sumZ weigh
   along zero v ms h e r = subst (λ U. Agree Q U ms xs cs ds) (sym (begin v (sym (none-left v d (s .total)) ∙ e))) r
@@ -82,7 +84,8 @@ module _ (Q : ℤ) (q : ℕ) (s : Segment) (scale : pos (s .divisor) *ℤ pos q 
       (next v m, subst (λ U. Agree Q U ms (replicate n (s .total *ℤ pos q) ++ xs) (replicate n q ++ cs) (duals-inside s (then-v s v m) (take n ms) ++ ds)) (next v m) (along n (then-v s v m) ms (omega arith) f r))
 
 -- ---- along a line
-all-along : (Q : ℕ) → 0 < Q → (u : ℤ) (ms : List Minute) (ss : List Segment) → total-length ss ≡ length ms → Weighed ms ss → Scale Q ss → Agree (pos Q) (pos Q *ℤ u) ms (numerators Q ss) (factors Q ss) (duals u ms ss)
+all-along : (Q : ℕ) → 0 < Q → (u : ℤ) (ms : List Minute) (ss : List Segment) → total-length ss ≡ length ms → Weighed ms ss → Scale Q ss →
+    Agree (pos Q) (pos Q *ℤ u) ms (numerators Q ss) (factors Q ss) (duals u ms ss)
 unfolding Agree total-length Weighed Scale numerators factors duals
 all-along Q p u [] [] l w z = tt
 all-along Q p u (m ∷ ms) [] l w z = absurd (omega arith)

@@ -39,7 +39,8 @@ module _ (ys : List ℤ) (p : Span) (end : ℕ) (start : Dual) (out₀ : List �
     pub v-small : natAbs (d .v) ≤ 72057594037927936 + (d .k - start .k) * 4398046511104
     pub u-small : natAbs (d .u) ≤ 1099511627776 + (d .k - start .k) * 16777216
     pub sums : d .u +ℤ sumZ (left (d .k)) ≡ start .u +ℤ sumZ (left (start .k))
-    pub fills : sets out (d .k) (duals-inside (as-segment p) (d .v) (plain (left (d .k)))) ≡ sets out₀ (start .k) (duals-inside (as-segment p) (start .v) (plain (left (start .k))))
+    pub fills : sets out (d .k) (duals-inside (as-segment p) (d .v) (plain (left (d .k)))) ≡ sets out₀ (start .k)
+        (duals-inside (as-segment p) (start .v) (plain (left (start .k))))
 
   pub filling-first : start .k ≤ end → natAbs (start .v) ≤ 72057594037927936 → natAbs (start .u) ≤ 1099511627776 → Filling out₀ start
   filling-first h v u = record { from = omega arith; upto = h; long = refl; v-small = omega arith; u-small = omega arith; sums = refl; fills = refl }

@@ -26,7 +26,8 @@ module _ (ys : List ℤ) (L : ℕ) (ns : List ℕ) (ts : List ℤ) (m : ℕ) (e 
   abbrev l : List Segment
   l = plain-line (pos L) ys
 
-  first-list : {A : Type 0} (f : Segment → A) (old new : List A) → m ≡ length l → new ≡ refill (map f l) old → (take m new ≡ map f l) × (drop m new ≡ drop m old)
+  first-list : {A : Type 0} (f : Segment → A) (old new : List A) → m ≡ length l → new ≡ refill (map f l) old →
+      (take m new ≡ map f l) × (drop m new ≡ drop m old)
   unfolding refill
   first-list f old new k h =
       let n : length (map f l) ≡ m = length-map l f ∙ sym k in

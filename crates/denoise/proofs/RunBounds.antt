@@ -38,7 +38,8 @@ module _ (ys : List ℤ) (smoothing : ℕ) (W : Limited ys smoothing) where
       pub ready : SmallMiddle (r .at) × ((smoothing ≤ 1099511627776) × ((r .at .k < length ys) × Upto 16777216 (getD ys (r .at .k) (pos 0))))
       ready = (record { total = room .U; n = room .n }, (most, (h, Limits.sample-small 16777216 ys (W .samples) (r .at .k) h)))
 
-      after : Limits.Small (pos smoothing) ys (more (dataOf ys smoothing) (stateOf r) (U′ (dataOf ys smoothing) (stateOf r)) (n′ (dataOf ys smoothing) (stateOf r)) false false)
+      after : Limits.Small (pos smoothing) ys
+          (more (dataOf ys smoothing) (stateOf r) (U′ (dataOf ys smoothing) (stateOf r)) (n′ (dataOf ys smoothing) (stateOf r)) false false)
       after = Limits.more-small (pos smoothing) ys smooth W (G .sound) (G .small) h false false
 
       pub low : Small (tubeOf ys smoothing (r .at) .low)

@@ -37,13 +37,16 @@ module _ (ys : List ℤ) (smoothing : ℕ) (r : Run) where
   pub step-3 : r .at .k < length ys → test3 d s ≡ true → step d s ≡ emit (as-segment (cutOf (r .i) (r .min))) (begin d (r .min .k) (pos smoothing))
   step-3 h e = step-inside d s h ∙ rw e
 
-  pub step-4 : r .at .k < length ys → test3 d s ≡ false → test4 d s ≡ true → step d s ≡ emit (as-segment (cutOf (r .i) (r .max))) (begin d (r .max .k) (negℤ (pos smoothing)))
+  pub step-4 : r .at .k < length ys → test3 d s ≡ false → test4 d s ≡ true →
+      step d s ≡ emit (as-segment (cutOf (r .i) (r .max))) (begin d (r .max .k) (negℤ (pos smoothing)))
   step-4 h e f = step-inside d s h ∙ rw (e, f)
 
-  pub step-8 : r .at .k ≡ length ys → belowOf (r .at) (r .min) ≡ true → step d s ≡ emit (as-segment (cutOf (r .i) (r .min))) (keep-max d s (begin d (r .min .k) (pos smoothing)))
+  pub step-8 : r .at .k ≡ length ys → belowOf (r .at) (r .min) ≡ true →
+      step d s ≡ emit (as-segment (cutOf (r .i) (r .min))) (keep-max d s (begin d (r .min .k) (pos smoothing)))
   step-8 h e = step-final d s h ∙ rw (none-z (r .at .total), e)
 
-  pub step-9 : r .at .k ≡ length ys → belowOf (r .at) (r .min) ≡ false → belowOf (r .max) (r .at) ≡ true → step d s ≡ emit (as-segment (cutOf (r .i) (r .max))) (keep-min d s (begin d (r .max .k) (negℤ (pos smoothing))))
+  pub step-9 : r .at .k ≡ length ys → belowOf (r .at) (r .min) ≡ false → belowOf (r .max) (r .at) ≡ true →
+      step d s ≡ emit (as-segment (cutOf (r .i) (r .max))) (keep-min d s (begin d (r .max .k) (negℤ (pos smoothing))))
   step-9 h e f = step-final d s h ∙ rw (none-z (r .at .total), e, f)
 
   pub step-10 : r .at .k ≡ length ys → belowOf (r .at) (r .min) ≡ false → belowOf (r .max) (r .at) ≡ false → step d s ≡ stop (as-segment (cutOf (r .i) (r .at)))
@@ -77,14 +80,16 @@ module _ (ys : List ℤ) (smoothing : ℕ) (W : Limited ys smoothing) where
     told : (o : Out) → step δ (stateOf r) ≡ o → lines δ (stateOf r) ≡ follow (lines δ) o
     told o e = lines-step δ (right ys smoothing W) (G .sound) ∙ ap (follow (lines δ)) e
 
-    pub emits : {q : Run} {t : State} (p : Span) → pos 0 ⋖ p .n → Slight (p .total) (p .n) → step δ (stateOf r) ≡ emit (as-segment p) t → stateOf q ≡ t → Emits ys smoothing r p q
+    pub emits : {q : Run} {t : State} (p : Span) → pos 0 ⋖ p .n → Slight (p .total) (p .n) → step δ (stateOf r) ≡ emit (as-segment p) t → stateOf q ≡ t →
+        Emits ys smoothing r p q
     emits {q} p a b f g =
         let o = emit (as-segment p) (stateOf q) in
         let e : step δ (stateOf r) ≡ o = f ∙ ap (emit (as-segment p)) (sym g) in
         let A = after o e in
         record { good = record { sound = A .sound; small = small-after o e }; further = A .further; short = A .short; less = A .less; long = A .long; above = a; small = b; rest = told o e }
 
-    pub turns : (p : Span) (m : Origin) → pos 0 ⋖ p .n → Slight (p .total) (p .n) → natAbs (m .u) ≤ smoothing → step δ (stateOf r) ≡ emit (as-segment p) (begin δ (m .i) (m .u)) → Turns ys smoothing r p m
+    pub turns : (p : Span) (m : Origin) → pos 0 ⋖ p .n → Slight (p .total) (p .n) → natAbs (m .u) ≤ smoothing →
+        step δ (stateOf r) ≡ emit (as-segment p) (begin δ (m .i) (m .u)) → Turns ys smoothing r p m
     turns p m a b h e =
         let o = emit (as-segment p) (begin δ (m .i) (m .u)) in
         let A = after o e in

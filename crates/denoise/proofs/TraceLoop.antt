@@ -39,7 +39,9 @@ duals-short u ms (g ∷ l) =
     simp (length-append, inside-long) (omega (arith, h, length-take (g .len) ms, length-drop (g .len) ms))
 
 -- a segment of a plain series
-duals-plain : (u : ℤ) (ys : List ℤ) (g : Segment) (l : List Segment) → duals u (plain ys) (g ∷ l) ≡ duals-inside g (by-divisor g u) (plain (take (g .len) ys)) ++ duals (u +ℤ sumZ (take (g .len) ys) -ℤ g .total) (plain (drop (g .len) ys)) l
+duals-plain : (u : ℤ) (ys : List ℤ) (g : Segment) (l : List Segment) →
+    duals u (plain ys) (g ∷ l) ≡ duals-inside g (by-divisor g u) (plain (take (g .len) ys)) ++ duals (u +ℤ sumZ (take (g .len) ys) -ℤ g .total)
+    (plain (drop (g .len) ys)) l
 unfolding duals
 duals-plain u ys g l = rw (take-plain (g .len) ys, drop-plain (g .len) ys, plain-weighted (take (g .len) ys))
 
@@ -85,7 +87,9 @@ module _ (ys : List ℤ) (smoothing : ℕ) (out₀ : List ℤ) where
       after = rw drop-drop at (subst (StartsWithin smoothing (m .u) (drop (m .i) ys)) e (K .starts-within) .1)
 
       -- the rest is filled in after it
-      opened : m .i + p .len ≤ length ys → sets out (m .i) (duals (m .u) (plain (drop (m .i) ys)) (rest ys smoothing r)) ≡ sets (sets out (m .i) (filledOf ys m p)) (m .i + p .len) (duals (endOf ys m p .u) (plain (drop (m .i + p .len) ys)) l)
+      opened : m .i + p .len ≤ length ys →
+          sets out (m .i) (duals (m .u) (plain (drop (m .i) ys)) (rest ys smoothing r)) ≡ sets (sets out (m .i) (filledOf ys m p)) (m .i + p .len)
+          (duals (endOf ys m p .u) (plain (drop (m .i + p .len) ys)) l)
       opened h =
           ap (sets out (m .i)) (ap (duals (m .u) (plain (drop (m .i) ys))) e ∙ duals-plain (m .u) (drop (m .i) ys) (as-segment p) l)
           ∙ sets-append out (m .i) (filledOf ys m p) _

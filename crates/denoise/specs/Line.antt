@@ -20,7 +20,9 @@ drawn (Drawn.Refused number place) = refused number place
 
 module _ (ys : List ℤ) (smoothing : ℕ) (lengths : List ℕ) (totals : List ℤ) where
   abbrev pub lineOf : Answer ℕ
-  lineOf = in-limits ys smoothing (refuse-if (ltb (length lengths) (length ys) || ltb (length totals) (length ys)) 5 0 (given (length (plain-line (pos smoothing) ys))))
+  lineOf =
+      in-limits ys smoothing
+      (refuse-if (ltb (length lengths) (length ys) || ltb (length totals) (length ys)) 5 0 (given (length (plain-line (pos smoothing) ys))))
 
   -- what the two lists then hold
   abbrev pub lengthsOf : List ℕ

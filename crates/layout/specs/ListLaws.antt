@@ -86,7 +86,9 @@ module _ (rest : List ℕ) where
   module _ (n : ℕ) (t : ℤ) (ns : List ℕ) (ts : List ℤ) where
     -- the first of the segments
     segments-first : {A : Type 0} (read : List ℕ → A) (m : ℕ)
-        → records 12 read (suc m) (segment-bytes (n ∷ ns) (t ∷ ts) ++ rest) ≡ read (encode 4 n ++ encode 8 (unsigned 8 t)) ∷ records 12 read m (segment-bytes ns ts ++ rest)
+        →
+        records 12 read (suc m) (segment-bytes (n ∷ ns) (t ∷ ts) ++ rest) ≡ read (encode 4 n ++ encode 8 (unsigned 8 t)) ∷ records 12 read m
+        (segment-bytes ns ts ++ rest)
     unfolding segment-bytes
     segments-first read m =
         let b = encode 4 n ++ encode 8 (unsigned 8 t) in

@@ -27,7 +27,8 @@ none-bad (y ∷ ys) i h = rw (le-ltb 16777216 (natAbs y) (h .0)) (none-bad ys (s
 
 module _ (ys : List ℤ) (L : ℕ) where
   -- an answer that 1, 2, 4 and 3 are not comes after them
-  pub limits-past : {A : Type 0} {x a : Answer A} → ((number place : ℕ) → number < 5 → refused number place ≡ a → ⊥) → in-limits ys L x ≡ a → Limited ys L × (x ≡ a)
+  pub limits-past : {A : Type 0} {x a : Answer A} → ((number place : ℕ) → number < 5 → refused number place ≡ a → ⊥) → in-limits ys L x ≡ a →
+      Limited ys L × (x ≡ a)
   limits-past n e =
       let e1 = if-past (eqb (length ys) 0) (n 1 0 (omega arith)) e in
       let e2 = if-past (ltb 65536 (length ys)) (n 2 0 (omega arith)) (e1 .1) in

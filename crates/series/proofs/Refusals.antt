@@ -13,11 +13,13 @@ pub same-given : {A : Type 0} {x y : A} → given x ≡ given y → x ≡ y
 same-given e = cc
 
 -- ---- an answer that is not the refusal comes after it
-pub if-past : {A : Type 0} (b : Bool) {number place : ℕ} {x a : Answer A} → (refused number place ≡ a → ⊥) → refuse-if b number place x ≡ a → (b ≡ false) × (x ≡ a)
+pub if-past : {A : Type 0} (b : Bool) {number place : ℕ} {x a : Answer A} → (refused number place ≡ a → ⊥) → refuse-if b number place x ≡ a →
+    (b ≡ false) × (x ≡ a)
 if-past true n e = absurd (n e)
 if-past false n e = (refl, e)
 
-pub at-past : {A : Type 0} (o : Option ℕ) {number : ℕ} {x a : Answer A} → ((place : ℕ) → refused number place ≡ a → ⊥) → refuse-at o number x ≡ a → (o ≡ none) × (x ≡ a)
+pub at-past : {A : Type 0} (o : Option ℕ) {number : ℕ} {x a : Answer A} → ((place : ℕ) → refused number place ≡ a → ⊥) → refuse-at o number x ≡ a →
+    (o ≡ none) × (x ≡ a)
 at-past (some k) n e = absurd (n k e)
 at-past none n e = (refl, e)
 
@@ -53,7 +55,8 @@ module _ {A B : Type 0} {x a : Answer A} {y b : Answer B} where
   at-alike none number r = r
 
 -- what the one says of the other
-pub stopped : {A B : Type 0} {x : A} {y b : Answer B} {a : Answer A} {number place : ℕ} → Alike (given x) y a b → a ≡ refused number place → b ≡ refused number place
+pub stopped : {A B : Type 0} {x : A} {y b : Answer B} {a : Answer A} {number place : ℕ} → Alike (given x) y a b → a ≡ refused number place →
+    b ≡ refused number place
 stopped (stop number place) e = cc
 stopped pass e = never (sym e)
 

@@ -32,7 +32,8 @@ pub none-found : (b : Bool) (i : ℕ) (rest : Option ℕ) → found b i rest ≡
 none-found true i rest e = let z : _≡_ {A = ℕ} 0 1 = cc in absurd (omega arith)
 none-found false i rest e = (refl, e)
 
-pub none-picked : {A : Type 0} (picks : A → Bool) (l : List A) (i : ℕ) → first-from picks i l ≡ none → (x : A) (k : ℕ) → k < length l → picks (getD l k x) ≡ false
+pub none-picked : {A : Type 0} (picks : A → Bool) (l : List A) (i : ℕ) → first-from picks i l ≡ none → (x : A) (k : ℕ) → k < length l →
+    picks (getD l k x) ≡ false
 unfolding first-from
 none-picked picks [] i e x k h = absurd (omega arith)
 none-picked picks (y ∷ l) i e x zero h = none-found (picks y) i _ e .0

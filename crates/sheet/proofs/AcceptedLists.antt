@@ -45,7 +45,8 @@ module _ (ys : List ℤ) (L : ℕ) where
       pub same : length ns ≡ length ts
       pub fewer : length ns ≤ length ys
 
-    own : (t : Bool) → (eqb (length ns) 0 && eqb (length ts) 0) ≡ t → Limited ys L → unless t (meets-conditions ys L ns ts passing) passing ≡ passing → Own ns ts
+    own : (t : Bool) → (eqb (length ns) 0 && eqb (length ts) 0) ≡ t → Limited ys L → unless t (meets-conditions ys L ns ts passing) passing ≡ passing →
+        Own ns ts
     own true t l m = let z = and-eq-true-iff (eqb (length ns) 0) (eqb (length ts) 0) .0 t in inl (eqb-true _ _ (z .0), eqb-true _ _ (z .1))
     own false t l m = let z = passes-line↔ ys L ns ts .0 (limits-passed ys L _ l ∙ m) in inr (z .1, z .2)
 

@@ -81,10 +81,12 @@ sheet-completed s ok =
     }
 
 module _ (s out : List ℕ) (b : ℕ) (e : completeOf s out ≡ given b) where
-  order : InOrder s × (in-limits (samples s) (smoothing s) (filed (samples s) (smoothing s) (lengths s) (totals s) (finishOf (samples s) (smoothing s) out)) ≡ given b)
+  order : InOrder s × (in-limits (samples s) (smoothing s)
+      (filed (samples s) (smoothing s) (lengths s) (totals s) (finishOf (samples s) (smoothing s) out)) ≡ given b)
   order = HeadLaws.passed s _ b e
 
-  lists : (finishOf (samples s) (smoothing s) out ≡ given b) × (in-limits (samples s) (smoothing s) (filed (samples s) (smoothing s) (lengths s) (totals s) passing) ≡ passing)
+  lists : (finishOf (samples s) (smoothing s) out ≡ given b) × (in-limits (samples s) (smoothing s)
+      (filed (samples s) (smoothing s) (lengths s) (totals s) passing) ≡ passing)
   lists = passed (tested-alike (samples s) (smoothing s) (lengths s) (totals s)) (order .1)
 
   limited : Limited (samples s) (smoothing s)
@@ -123,7 +125,8 @@ module _ (s out : List ℕ) where
       × (when-given a (λ b. Only (samples s) (smoothing s) (lengths (take b o)) (totals (take b o)))
       × when-given a (λ b. Least (samples s) (smoothing s) (filed-line (take b o)))))
 
-  pub promised : (a : Answer ℕ) (o : List ℕ) → (a ≡ completeOf s out) × (o ≡ completedAfter s out) → (a ≡ completeOf s out) × ((o ≡ completedAfter s out) × Promises a o)
+  pub promised : (a : Answer ℕ) (o : List ℕ) → (a ≡ completeOf s out) × (o ≡ completedAfter s out) →
+      (a ≡ completeOf s out) × ((o ≡ completedAfter s out) × Promises a o)
   promised a o t = (t .0, (t .1, rw (t .0, t .1) (of-answer (completeOf s out) refl)))
     where
       of-answer : (a : Answer ℕ) → completeOf s out ≡ a → Promises a (completedAfter s out)

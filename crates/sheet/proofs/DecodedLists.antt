@@ -45,7 +45,8 @@ module _ (s : List ℕ) (f : Fields) (e : f ≡ fields s) where
       answered : r ≡ readOf s a b c
       answered = q ∙ rw (ey, en, et, e) (sym (HeadLaws.passes s _ o))
 
-      copied : {A : Type 0} (xs new old new′ : List A) → xs ≡ new → new′ ≡ on-success r (refill xs old) old → new′ ≡ on-success (readOf s a b c) (refill new old) old
+      copied : {A : Type 0} (xs new old new′ : List A) → xs ≡ new → new′ ≡ on-success r (refill xs old) old →
+          new′ ≡ on-success (readOf s a b c) (refill new old) old
       copied xs new old new′ x n = n ∙ ap₂ (λ r xs. on-success r (refill xs old) old) answered x
 
       pub filled : (a′ : List ℤ) (b′ : List ℕ) (c′ : List ℤ)
@@ -69,7 +70,8 @@ module _ (s : List ℕ) (f : Fields) (e : f ≡ fields s) where
         finishes : completeOf s out ≡ room out (size (length ys) (length (take m ns′)))
         finishes = by-tests ∙ passed (tested-alike ys (f .smoothing) ns ts) q .1 ∙ rw (has .lengths, length-map l _)
 
-        pub completes : (r ≡ room out (size (length ys) (length (take m ns′)))) × (out′ ≡ on-success r (refill (sheet-bytes ys (f .smoothing) (take m ns′) (take m ts′)) out) out)
+        pub completes : (r ≡ room out (size (length ys) (length (take m ns′)))) × (out′ ≡ on-success r
+            (refill (sheet-bytes ys (f .smoothing) (take m ns′) (take m ts′)) out) out)
             → (r ≡ completeOf s out) × (out′ ≡ completedAfter s out)
         completes h =
             let p = h .0 ∙ sym finishes in

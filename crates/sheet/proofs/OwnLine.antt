@@ -27,7 +27,8 @@ module _ (ys : List ℤ) (L : ℕ) where
   l = plain-line (pos L) ys
 
   -- two lists that begin with the line of a series that is not empty
-  pub has : (m : ℕ) (ns : List ℕ) (ts : List ℤ) → 0 < length ys → length ys ≤ 65536 → m ≡ length l → take m ns ≡ line-lengths l → take m ts ≡ line-totals l → Has l m ns ts
+  pub has : (m : ℕ) (ns : List ℕ) (ts : List ℤ) → 0 < length ys → length ys ≤ 65536 → m ≡ length l → take m ns ≡ line-lengths l →
+      take m ts ≡ line-totals l → Has l m ns ts
   has m ns ts some few e p q =
       let fewer = line-few ys L some in
       let a : length (take m ns) ≡ m = ap length p ∙ length-map l _ ∙ sym e in
@@ -43,7 +44,8 @@ module _ (ys : List ℤ) (L : ℕ) where
 
   module _ (ns : List ℕ) (ts : List ℤ) where
     -- ---- drawn
-    pub drawn-has : (m : ℕ) (ns′ : List ℕ) (ts′ : List ℤ) → lineOf ys L ns ts ≡ given m → ns′ ≡ lengthsOf ys L ns ts → ts′ ≡ totalsOf ys L ns ts → Has l m ns′ ts′
+    pub drawn-has : (m : ℕ) (ns′ : List ℕ) (ts′ : List ℤ) → lineOf ys L ns ts ≡ given m → ns′ ≡ lengthsOf ys L ns ts → ts′ ≡ totalsOf ys L ns ts →
+        Has l m ns′ ts′
     drawn-has m ns′ ts′ e p q =
         let k = lists ys L ns ts m e in
         has m ns′ ts′ (k .0 .some) (k .0 .few) (k .1) (ap (take m) p ∙ lengths-are ys L ns ts m e .0) (ap (take m) q ∙ totals-are ys L ns ts m e .0)
@@ -64,7 +66,8 @@ module _ (ys : List ℤ) (L : ℕ) where
         go (given m) e = drawn-has m ns′ ts′ e p q
 
     -- ---- filed
-    pub filed-line : (k : ℕ) → 0 < k → k ≤ length ns → k ≤ length ts → in-limits ys L (filed ys L (take k ns) (take k ts) passing) ≡ passing → Answered k (given k) ns ts
+    pub filed-line : (k : ℕ) → 0 < k → k ≤ length ns → k ≤ length ts → in-limits ys L (filed ys L (take k ns) (take k ts) passing) ≡ passing →
+        Answered k (given k) ns ts
     filed-line k h hn ht e =
         let j = accepted-lists ys L (take k ns) (take k ts) e in
         let w = j .limited in

@@ -114,7 +114,8 @@ module _ (s out : List ℕ) (b : ℕ) (e : completeOf s out ≡ given b) where
     completed-same = (sym (bytes-count s out b e) ∙ ap length unchanged, rw (e, unchanged))
 
   -- what was completed is completed to itself
-  pub completed-twice : (out₂ : List ℕ) → b ≤ length out₂ → let o = take b (completedAfter s out) in (completeOf o out₂ ≡ given b) × (completedAfter o out₂ ≡ refill o out₂)
+  pub completed-twice : (out₂ : List ℕ) → b ≤ length out₂ → let o = take b (completedAfter s out) in
+      (completeOf o out₂ ≡ given b) × (completedAfter o out₂ ≡ refill o out₂)
   completed-twice out₂ h = (again, rw (again, c₂ .completed-again))
     where
       o : List ℕ

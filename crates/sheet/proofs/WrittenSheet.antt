@@ -47,7 +47,8 @@ lengths-fit [] h i = omega arith
 lengths-fit (s ∷ ss) h zero = omega arith
 lengths-fit (s ∷ ss) h (suc i) = lengths-fit ss (omega arith) i
 
-totals-fit : (ns : List ℕ) (ts : List ℤ) → Segments.total-length (segments ns ts) ≤ 65536 → Within 16777216 (segments ns ts) → Integers 8 (Plain.line-totals (segments ns ts))
+totals-fit : (ns : List ℕ) (ts : List ℤ) → Segments.total-length (segments ns ts) ≤ 65536 → Within 16777216 (segments ns ts) →
+    Integers 8 (Plain.line-totals (segments ns ts))
 unfolding Segments.total-length Within segments
 totals-fit [] ts h w i = omega arith
 totals-fit (n ∷ ns) [] h w i = omega arith
@@ -126,5 +127,6 @@ module _ (ys : List ℤ) (L : ℕ) (ns : List ℕ) (ts : List ℤ) (a : in-limit
   pub accepts : {A : Type 0} (rest : Answer A) → accepted c rest ≡ rest
   accepts rest = well-headed-of-written ys L ns ts (j .same) _ (within-limits .some) (j .limited .few) (j .fewer) ∙ inner (samples c) (smoothing c) (lengths c) (totals c) samples-of smoothing-of lengths-of totals-of
     where
-      inner : (ys′ : List ℤ) (L′ : ℕ) (ns′ : List ℕ) (ts′ : List ℤ) → ys′ ≡ ys → L′ ≡ L → ns′ ≡ ns → ts′ ≡ ts → in-limits ys′ L′ (filed ys′ L′ ns′ ts′ rest) ≡ rest
+      inner : (ys′ : List ℤ) (L′ : ℕ) (ns′ : List ℕ) (ts′ : List ℤ) → ys′ ≡ ys → L′ ≡ L → ns′ ≡ ns → ts′ ≡ ts →
+          in-limits ys′ L′ (filed ys′ L′ ns′ ts′ rest) ≡ rest
       inner ys′ L′ ns′ ts′ e f g h = rw (e, f, g, h) (passed (tested-alike ys L ns ts) a .1)

@@ -4,9 +4,9 @@ use mathlib.Core.List.{[], _∷_}
 use lib.IntN.{negsuc}
 use Rattle.text.specs.Decimal.{digits, decimal, signedDecimal}
 
-nought : decimal 0 ≡ 48 ∷ []
+zero : decimal 0 ≡ 48 ∷ []
 unfolding decimal digits
-nought = refl
+zero = refl
 
 inner-zero : decimal 1024 ≡ 49 ∷ 48 ∷ 50 ∷ 52 ∷ []
 unfolding decimal digits

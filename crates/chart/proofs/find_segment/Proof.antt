@@ -28,7 +28,8 @@ level-at-requires : tie.Need-level-at-requires
 level-at-requires c κs = search needs
 
 -- the segment's minutes are among those of the line
-within : (c : tie.After-level-at) → let s = c .before .before .before .before .before in c .before .minutes .result + c .level-at .result .length ≤ sum (s .args .lengths .now)
+within : (c : tie.After-level-at) → let s = c .before .before .before .before .before in
+    c .before .minutes .result + c .level-at .result .length ≤ sum (s .args .lengths .now)
 within c =
     let s = c .before .before .before .before .before in
     let ns = s .args .lengths .now in

@@ -26,7 +26,9 @@ shared-slice-read-n : tie.Need-shared-slice-read-n Inv-loop μ-loop
 shared-slice-read-n c = omega arith
 
 -- with one length more
-more : (c : tie.In-loop Inv-loop μ-loop) → let a = c .before in let ns = a .before .args .lengths .now in sum (take (a .loop .i + 1) ns) ≡ a .loop .n + getD ns (a .loop .i) 0
+more : (c : tie.In-loop Inv-loop μ-loop) → let a = c .before in
+    let ns = a .before .args .lengths .now in
+    sum (take (a .loop .i + 1) ns) ≡ a .loop .n + getD ns (a .loop .i) 0
 more c =
     let a = c .before in
     let ns = a .before .args .lengths .now in

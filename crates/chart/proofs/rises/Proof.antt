@@ -28,7 +28,8 @@ less-is a b h k =
     (total a b h k)
 
 -- by the outcome r
-told : (c : tie.After-compare) (r : Compared) → c .compare .result ≡ r → less (compared r) ≡ ltZ (cross (c .before .args .a) (c .before .args .b)) (cross (c .before .args .b) (c .before .args .a))
+told : (c : tie.After-compare) (r : Compared) → c .compare .result ≡ r →
+    less (compared r) ≡ ltZ (cross (c .before .args .a) (c .before .args .b)) (cross (c .before .args .b) (c .before .args .a))
 told c r e = ap less (ap compared (sym e) ∙ c .compare .ensures) ∙ less-is _ _ (c .before .pre .0) (c .before .pre .1)
 
 pub rises-spec : {M : Type 1} → statement M

@@ -30,7 +30,8 @@ Answered n ns ts firsts lasts levels x =
     × ((on-success x (refill (parts (λ s. s .last) ns ts) lasts) lasts ≡ lastsOf n ns ts firsts lasts levels)
     × (on-success x (refill (parts (λ s. s .level) ns ts) levels) levels ≡ levelsOf n ns ts firsts lasts levels)))
 
-answered : (n : ℕ) (ns : List ℕ) (ts : List ℤ) (firsts lasts : List ℕ) (levels : List Float) {x : Answer (Unit {0})} → x ≡ segmentsOf n ns ts firsts lasts levels → Answered n ns ts firsts lasts levels x
+answered : (n : ℕ) (ns : List ℕ) (ts : List ℤ) (firsts lasts : List ℕ) (levels : List Float) {x : Answer (Unit {0})} →
+    x ≡ segmentsOf n ns ts firsts lasts levels → Answered n ns ts firsts lasts levels x
 answered n ns ts firsts lasts levels e = (
   e,
   (
@@ -47,7 +48,8 @@ module _ (c : tie.After-shape) (r : Checked) (e : c .shape .result ≡ r) where
   drawable : given tt ≡ checked r → Drawable (s .args .lengths .now) (s .args .totals .now)
   drawable = drawable-if (s .args .n) (s .args .lengths .now) (s .args .totals .now) (c .shape .ensures) e
 
-  then-room : {x : Answer (Unit {0})} → x ≡ then (checked r) (roomOf (s .args .lengths .now) (s .args .firsts .now) (s .args .lasts .now) (s .args .levels .now)) →
+  then-room : {x : Answer (Unit {0})} →
+      x ≡ then (checked r) (roomOf (s .args .lengths .now) (s .args .firsts .now) (s .args .lasts .now) (s .args .levels .now)) →
       Answered (s .args .n) (s .args .lengths .now) (s .args .totals .now) (s .args .firsts .now) (s .args .lasts .now) (s .args .levels .now) x
   then-room p = answered (s .args .n) (s .args .lengths .now) (s .args .totals .now) (s .args .firsts .now) (s .args .lasts .now) (s .args .levels .now) (p ∙ answer-is (s .args .n) (s .args .lengths .now) (s .args .totals .now) (c .shape .ensures) e _)
 

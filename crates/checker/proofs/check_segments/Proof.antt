@@ -122,7 +122,8 @@ module _ {M : Type 1} (𝓤 : URA M) (H : Heap 𝓤) (A : Atoms 𝓤) (W : Given
   abbrev OwnS : Fml
   OwnS = ShrSlice (named 1) κ′ R .own sr (sv ∷ [])
 
-  exits : (r : Checked) (u : Val) → checked r ≡ checkOf ys L (lengths-of ss) (totals-of ss) → ent 𝓤 (⋆ 𝓤 H A (‵ (K.the-row .own r (u ∷ [])) ∷ (‵ (flft κ q) ⊛ ‵ ftrue) ∷ ‵ (flft κ′ q′) ∷ ‵ OwnY ∷ ‵ OwnS ∷ [])) (Post u)
+  exits : (r : Checked) (u : Val) → checked r ≡ checkOf ys L (lengths-of ss) (totals-of ss) →
+      ent 𝓤 (⋆ 𝓤 H A (‵ (K.the-row .own r (u ∷ [])) ∷ (‵ (flft κ q) ⊛ ‵ ftrue) ∷ ‵ (flft κ′ q′) ∷ ‵ OwnY ∷ ‵ OwnS ∷ [])) (Post u)
   exits r u e =
       qed W (‵ (K.the-row .own r (u ∷ [])) ∷ (‵ (flft κ q) ⊛ ‵ ftrue) ∷ ‵ (flft κ′ q′) ∷ ‵ OwnY ∷ ‵ OwnS ∷ []) ∵
       suffices ! _ (ends-at 𝓤 H A f.ended stayed (f.clauses 𝓤 H A mem run) W ((κs, (q, (q′, tt)), tt, x, at), tt) u r (tt, (tt, (tt, tt))) (tt, (tt, (tt, tt)))) $ says ! e $
@@ -173,7 +174,8 @@ module _ {M : Type 1} (𝓤 : URA M) (H : Heap 𝓤) (A : Atoms 𝓤) (W : Given
     Left = afterBlock 𝓤 H (afterSeq 𝓤 H (Wp 𝓤 H C Λ En body.t-4 (atReturn 𝓤 H En Post)) (atReturn 𝓤 H En Post))
 
     -- a turn at a segment
-    more : (k : ℕ) (w : Walk) (v : Val) (X : SProp 𝓤) → k < n → Is S.the-row w (v ∷ []) → ((r : Walk) (u : Val) → Is S.the-row r (u ∷ []) → stepped (step-x k w v) r → ent 𝓤 (⋆ 𝓤 H A (At (k + 1) u)) X)
+    more : (k : ℕ) (w : Walk) (v : Val) (X : SProp 𝓤) → k < n → Is S.the-row w (v ∷ []) →
+        ((r : Walk) (u : Val) → Is S.the-row r (u ∷ []) → stepped (step-x k w v) r → ent 𝓤 (⋆ 𝓤 H A (At (k + 1) u)) X)
         → ent 𝓤 (⋆ 𝓤 H A (At k v)) (Wp 𝓤 H C Λ En body.turn-1 (afterTurn 𝓤 H X Left))
     unfolding afterTurn
     more k w v X small is then =
@@ -211,7 +213,8 @@ module _ {M : Type 1} (𝓤 : URA M) (H : Heap 𝓤) (A : Atoms 𝓤) (W : Given
         place-fits = record { fits = next-fits k n small (g .0) }
 
     -- the turn that leaves the loop, and the rest of the body
-    ends : (w : Walk) (v : Val) (X : SProp 𝓤) → Is S.the-row w (v ∷ []) → left L ys ss n w ≡ left L ys ss 0 walk-start → ent 𝓤 (⋆ 𝓤 H A (At n v)) (Wp 𝓤 H C Λ En body.turn-1 (afterTurn 𝓤 H X Left))
+    ends : (w : Walk) (v : Val) (X : SProp 𝓤) → Is S.the-row w (v ∷ []) → left L ys ss n w ≡ left L ys ss 0 walk-start →
+        ent 𝓤 (⋆ 𝓤 H A (At n v)) (Wp 𝓤 H C Λ En body.turn-1 (afterTurn 𝓤 H X Left))
     unfolding afterTurn
     ends w v X is h =
         qed W (At n v) ∵ exec ! C Λ En body.turn-1 (anyQ (afterTurn 𝓤 H X Left)) $
@@ -270,7 +273,8 @@ module _ {M : Type 1} (𝓤 : URA M) (H : Heap 𝓤) (A : Atoms 𝓤) (W : Given
         move ! (26 ∷ []) $ split ! $ move ! (1 ∷ []) $ split ! $
         keep ! (3 ∷ 0 ∷ 19 ∷ 17 ∷ 15 ∷ 13 ∷ 11 ∷ 9 ∷ 7 ∷ 21 ∷ 25 ∷ 23 ∷ 27 ∷ 2 ∷ 6 ∷ 4 ∷ 28 ∷ 26 ∷ 24 ∷ 22 ∷ 20 ∷ 18 ∷ 16 ∷ 14 ∷ 12 ∷ 10 ∷ 8 ∷ []) $ by ! (loops r u is e)))))
 
-  walk : (𝓣 : Tables 𝓤 H) → Known 𝓤 H A mem run (𝓣 .C) → length ys < 2 ^ 64 → Room R n → ent 𝓤 (onEntry 𝓤 H A f.signature κs (q, (q′, tt)) x at) (WpFn 𝓤 H (𝓣 .C) (𝓣 .Λ) code.function (yv ∷ vint w64 L ∷ sv ∷ []) Post)
+  walk : (𝓣 : Tables 𝓤 H) → Known 𝓤 H A mem run (𝓣 .C) → length ys < 2 ^ 64 → Room R n →
+      ent 𝓤 (onEntry 𝓤 H A f.signature κs (q, (q′, tt)) x at) (WpFn 𝓤 H (𝓣 .C) (𝓣 .Λ) code.function (yv ∷ vint w64 L ∷ sv ∷ []) Post)
   walk 𝓣 known gy g =
       qed W ((‵ (flft κ q) ⊛ ‵ (flft κ′ q′) ⊛ ‵ ftrue) ∷ ‵ (owns (ShrSlice (named 0) κ i32 ∷ u64 ∷ ShrSlice (named 1) κ′ R ∷ []) x at) ∷ []) ∵ enter ! (𝓣 .C) (𝓣 .Λ) code.function (yv ∷ vint w64 L ∷ sv ∷ []) _ $
       alloc1 ! (λ l₀. alloc1 ! (λ l₁. alloc1 ! (λ l₂. alloc1 ! (λ l₃. alloc1 ! (λ l₄. alloc1 ! (λ l₅. alloc1 ! (λ l₆. alloc1 ! (λ l₇. alloc1 ! (λ l₈. alloc1 ! (λ l₉. alloc1 ! (λ l₁₀. alloc0 ! $ params1 ! $

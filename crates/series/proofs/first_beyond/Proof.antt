@@ -34,7 +34,8 @@ beyond-requires : tie.Need-beyond-requires Inv-loop μ-loop
 beyond-requires c κs = search needs
 
 -- what the test says of the sample
-told : (c : tie.After-beyond Inv-loop μ-loop) → let a = c .before .before .before in c .beyond .result ≡ bad-sample (getD (a .before .args .samples .now) (a .loop .k) (pos 0))
+told : (c : tie.After-beyond Inv-loop μ-loop) → let a = c .before .before .before in
+    c .beyond .result ≡ bad-sample (getD (a .before .args .samples .now) (a .loop .k) (pos 0))
 told c =
     let a = c .before .before .before in
     let y = getD (a .before .args .samples .now) (a .loop .k) (pos 0) in

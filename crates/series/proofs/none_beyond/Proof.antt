@@ -26,12 +26,12 @@ abbrev μ-loop : tie.MeasureT-loop
 
 -- one sample more, beyond the limits or within them
 module _ (i : ℕ) (rest : Option ℕ) (told : Bool) where
-  wild : (all all′ : Bool) → all′ ≡ false → (all && is-none (found true i rest)) ≡ told → (all′ && is-none rest) ≡ told
-  wild true all′ e h = rw e h
-  wild false all′ e h = rw e h
+  found-beyond : (all all′ : Bool) → all′ ≡ false → (all && is-none (found true i rest)) ≡ told → (all′ && is-none rest) ≡ told
+  found-beyond true all′ e h = rw e h
+  found-beyond false all′ e h = rw e h
 
-  calm : (all all′ : Bool) → all′ ≡ all → (all && is-none (found false i rest)) ≡ told → (all′ && is-none rest) ≡ told
-  calm all all′ e h = rw e h
+  within : (all all′ : Bool) → all′ ≡ all → (all && is-none (found false i rest)) ≡ told → (all′ && is-none rest) ≡ told
+  within all all′ e h = rw e h
 
 loop-holds : tie.Need-loop-holds Inv-loop μ-loop
 loop-holds c = refl
@@ -46,7 +46,8 @@ beyond-requires : tie.Need-beyond-requires Inv-loop μ-loop
 beyond-requires c κs = search needs
 
 -- what the test says of the sample
-told : (c : tie.After-beyond Inv-loop μ-loop) → let a = c .before .before .before in c .beyond .result ≡ bad-sample (getD (a .before .args .samples .now) (a .loop .k) (pos 0))
+told : (c : tie.After-beyond Inv-loop μ-loop) → let a = c .before .before .before in
+    c .beyond .result ≡ bad-sample (getD (a .before .args .samples .now) (a .loop .k) (pos 0))
 told c =
     let a = c .before .before .before in
     let y = getD (a .before .args .samples .now) (a .loop .k) (pos 0) in
@@ -71,8 +72,8 @@ loop-again c =
     rw (told d) (rw (next bad-sample l k (pos 0) (omega arith)) at (a .loop .inv)) in
     rw (add-one k)
     (⊎-elim
-    (λ x. wild (suc k) rest whole (a .loop .all) (c .if1 .all) (x .1) (rw (x .0 .taken) at h))
-    (λ x. calm (suc k) rest whole (a .loop .all) (c .if1 .all) (x .1) (rw (x .0 .left) at h))
+    (λ x. found-beyond (suc k) rest whole (a .loop .all) (c .if1 .all) (x .1) (rw (x .0 .taken) at h))
+    (λ x. within (suc k) rest whole (a .loop .all) (c .if1 .all) (x .1) (rw (x .0 .left) at h))
     (c .if1 .came))
 
 all-seen : (all : Bool) → (all && true) ≡ all

@@ -85,15 +85,18 @@ module _ {M : Type 1} (𝓤 : URA M) (H : Heap 𝓤) (A : Atoms 𝓤) (mem : Mem
   pub said-step : (κ : Lft) (x : StepArgs) (r : Walk) → ent 𝓤 (ensured 𝓤 H A step.ended (step.clauses 𝓤 H A mem run) (κ, tt) x tt r) (fact 𝓤 (stepped x r))
   said-step κ x r = exE 𝓤 _ (λ ws. snd∗ 𝓤 (sem 𝓤 H A (lasts step.ended (κ, tt) x ws)) (fact 𝓤 (stepped x r)))
 
-  pub said-close : (κ : Lft) (x : CloseArgs) (r : Checked) → ent 𝓤 (ensured 𝓤 H A close.ended (close.clauses 𝓤 H A mem run) (κ, tt) x tt r) (fact 𝓤 (closed x r))
+  pub said-close : (κ : Lft) (x : CloseArgs) (r : Checked) →
+      ent 𝓤 (ensured 𝓤 H A close.ended (close.clauses 𝓤 H A mem run) (κ, tt) x tt r) (fact 𝓤 (closed x r))
   said-close κ x r = exE 𝓤 _ (λ ws. snd∗ 𝓤 (sem 𝓤 H A (lasts close.ended (κ, tt) x ws)) (fact 𝓤 (closed x r)))
 
 module _ {M : Type 1} (𝓤 : URA M) (H : Heap 𝓤) (A : Atoms 𝓤) (W : Given 𝓤 H A) (mem : Memory → SProp 𝓤) (run : Routine → Fun 𝓤) where
   pub asked-start : ent 𝓤 (⋆ 𝓤 H A (‵ ftrue ∷ ‵ ftrue ∷ [])) (Start 𝓤 H A mem run .pre ((tt, tt, tt, tt, tt), tt))
   asked-start = qed W (‵ ftrue ∷ ‵ ftrue ∷ []) ∵ join ! $ frame ! $ done !
 
-  pub asked-step : (κ : Lft) (q : Share) (x : StepArgs) (v : Val) → ent 𝓤 (onEntry 𝓤 H A step.signature (κ, tt) (q, tt) x (step-vals κ x v)) (Step 𝓤 H A mem run .pre (((κ, tt), (q, tt), tt, x, step-vals κ x v), tt))
+  pub asked-step : (κ : Lft) (q : Share) (x : StepArgs) (v : Val) →
+      ent 𝓤 (onEntry 𝓤 H A step.signature (κ, tt) (q, tt) x (step-vals κ x v)) (Step 𝓤 H A mem run .pre (((κ, tt), (q, tt), tt, x, step-vals κ x v), tt))
   asked-step κ q x v = qed W ((‵ (flft κ q) ⊛ ‵ ftrue) ∷ ‵ (owns (ShrSlice (named 0) κ i32 ∷ u64 ∷ S.the-row ∷ T.the-row ∷ usize ∷ []) x (step-vals κ x v)) ∷ []) ∵ join ! $ frame ! $ done !
 
-  pub asked-close : (κ : Lft) (q : Share) (x : CloseArgs) (v : Val) → ent 𝓤 (onEntry 𝓤 H A close.signature (κ, tt) (q, tt) x (close-vals κ x v)) (Close 𝓤 H A mem run .pre (((κ, tt), (q, tt), tt, x, close-vals κ x v), tt))
+  pub asked-close : (κ : Lft) (q : Share) (x : CloseArgs) (v : Val) →
+      ent 𝓤 (onEntry 𝓤 H A close.signature (κ, tt) (q, tt) x (close-vals κ x v)) (Close 𝓤 H A mem run .pre (((κ, tt), (q, tt), tt, x, close-vals κ x v), tt))
   asked-close κ q x v = qed W ((‵ (flft κ q) ⊛ ‵ ftrue) ∷ ‵ (owns (ShrSlice (named 0) κ i32 ∷ u64 ∷ usize ∷ S.the-row ∷ []) x (close-vals κ x v)) ∷ []) ∵ join ! $ frame ! $ done !

@@ -35,7 +35,8 @@ module _ (c : tie.In-loop Inv-loop μ-loop) where
   abbrev m : Progress
   m = minuteOf (s .args .smoothing) (s .args .samples .now) (s .args .t) (c .before .loop .e) n
 
-  goes-on : unless-stopped m (alongOf (s .args .smoothing) (s .args .samples .now) (s .args .t) m n) ≡ alongOf (s .args .smoothing) (s .args .samples .now) (s .args .t) (s .args .d) (s .args .t .length)
+  goes-on : unless-stopped m (alongOf (s .args .smoothing) (s .args .samples .now) (s .args .t) m n) ≡ alongOf (s .args .smoothing) (s .args .samples .now)
+      (s .args .t) (s .args .d) (s .args .t .length)
   unfolding alongOf
   goes-on = let e : c .before .loop .left ≡ suc n = omega arith in rw e at (c .before .loop .inv .1)
 

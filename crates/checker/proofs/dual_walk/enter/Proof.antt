@@ -25,7 +25,8 @@ module _ (c : tie.After-compare) (r : Compared) (e : c .compare .result ≡ r) w
   outcome : compareOf (s .args .s) (s .args .t) ≡ compared r
   outcome = sym (c .compare .ensures) ∙ ap compared e
 
-  told : crossed (s .args .smoothing) (compared r) (s .args .d) (s .args .s) (s .args .t) ≡ enteredOf (s .args .smoothing) (s .args .d) (s .args .s) (s .args .t)
+  told : crossed (s .args .smoothing) (compared r) (s .args .d) (s .args .s) (s .args .t) ≡ enteredOf (s .args .smoothing) (s .args .d) (s .args .s)
+      (s .args .t)
   told = rw (ne-eqb _ _ (c .before .if1 .left), outcome)
 
 -- ---- the line rises or falls

@@ -30,7 +30,8 @@ dual c = toZ-ofZ (record { sfits = c .struct-told .given .1 .0 .1 })
 asked : (c : tie.After-side) → toZ w64 (ofZ w64 (c .side .result)) ≡ before (c .before)
 asked c = toZ-ofZ (record { sfits = c .side .ok }) ∙ c .side .ensures
 
-next : (c : tie.After-side2) → let s = c .before .before .before .before .before .before .before .before in toZ w64 (ofZ w64 (c .side2 .result)) ≡ sideOf (s .args .smoothing) (s .args .rising) (s .args .t .length)
+next : (c : tie.After-side2) → let s = c .before .before .before .before .before .before .before .before in
+    toZ w64 (ofZ w64 (c .side2 .result)) ≡ sideOf (s .args .smoothing) (s .args .rising) (s .args .t .length)
 next c = toZ-ofZ (record { sfits = c .side2 .ok }) ∙ c .side2 .ensures
 
 returns : tie.Need-returns

@@ -39,11 +39,13 @@ loop2-holds : tie.Need-loop2-holds Inv-loop2 μ-loop2 Inv-loop μ-loop
 loop2-holds c = ((λ a b K. K), omega arith)
 
 module _ (l : tie.At-loop2 Inv-loop2 μ-loop2 Inv-loop μ-loop) where
-  kept : let a = l .before .before .before .before .args in Kept (a .samples .now) (a .smoothing) (a .lengths .now) (a .totals .now) (l .loop2 .lengths) (l .loop2 .totals) (l .loop2 .m) (l .loop2 .r)
+  kept : let a = l .before .before .before .before .args in
+      Kept (a .samples .now) (a .smoothing) (a .lengths .now) (a .totals .now) (l .loop2 .lengths) (l .loop2 .totals) (l .loop2 .m) (l .loop2 .r)
   kept = l .loop2 .inv .0 _ _ (l .before .loop .inv)
 
   -- a segment fits, and there is room for it
-  room : (n : ℕ) → n ≤ length (l .before .before .before .before .args .samples .now) → (n ≤ 65536) × ((l .loop2 .m < length (l .loop2 .lengths)) × (l .loop2 .m < length (l .loop2 .totals)))
+  room : (n : ℕ) → n ≤ length (l .before .before .before .before .args .samples .now) →
+      (n ≤ 65536) × ((l .loop2 .m < length (l .loop2 .lengths)) × (l .loop2 .m < length (l .loop2 .totals)))
   room n h = let s = l .before .before .before .before in let K = kept in (omega (arith, s .pre .0 .few), (omega (arith, K .few, K .short, K .lengths-long, s .pre .1 .0), omega (arith, K .few, K .short, K .totals-long, s .pre .1 .1)))
 
   few : l .loop2 .m < 65536
@@ -59,7 +61,9 @@ finish-requires c κs =
 enum-known-p : tie.Need-enum-known-p Inv-loop2 μ-loop2 Inv-loop μ-loop
 enum-known-p c = search needs
 
-emitted : (c : tie.After-p Inv-loop2 μ-loop2 Inv-loop μ-loop) → let l = c .before .before .before .before .before in let a = l .before .before .before .before .args in Emits (a .samples .now) (a .smoothing) (l .loop2 .r) (c .p .given .0 .0) (c .p .given .0 .1 .0)
+emitted : (c : tie.After-p Inv-loop2 μ-loop2 Inv-loop μ-loop) → let l = c .before .before .before .before .before in
+    let a = l .before .before .before .before .args in
+    Emits (a .samples .now) (a .smoothing) (l .loop2 .r) (c .p .given .0 .0) (c .p .given .0 .1 .0)
 emitted c = let l = c .before .before .before .before .before in let a = l .before .before .before .before .args in subst (Advanced (a .samples .now) (a .smoothing) (l .loop2 .r)) (c .p .given .1) (c .before .before .finish .ensures)
 
 write-requires : tie.Need-write-requires Inv-loop2 μ-loop2 Inv-loop μ-loop
@@ -83,7 +87,9 @@ loop2-again c =
 enum-known-p-2 : tie.Need-enum-known-p-2 Inv-loop2 μ-loop2 Inv-loop μ-loop
 enum-known-p-2 c = search needs
 
-stopped : (c : tie.After-p2 Inv-loop2 μ-loop2 Inv-loop μ-loop) → let l = c .before .before .before .before .before in let a = l .before .before .before .before .args in Stops (a .samples .now) (a .smoothing) (l .loop2 .r) (c .p2 .given .0 .0)
+stopped : (c : tie.After-p2 Inv-loop2 μ-loop2 Inv-loop μ-loop) → let l = c .before .before .before .before .before in
+    let a = l .before .before .before .before .args in
+    Stops (a .samples .now) (a .smoothing) (l .loop2 .r) (c .p2 .given .0 .0)
 stopped c = let l = c .before .before .before .before .before in let a = l .before .before .before .before .args in subst (Advanced (a .samples .now) (a .smoothing) (l .loop2 .r)) (c .p2 .given .1) (c .before .before .finish .ensures)
 
 write-requires-2 : tie.Need-write-requires-2 Inv-loop2 μ-loop2 Inv-loop μ-loop
@@ -131,7 +137,10 @@ add-m-2 c = omega (arith, few (c .before .before .before .before .before .before
 begin-requires-2 : tie.Need-begin-requires-2 Inv-loop2 μ-loop2 Inv-loop μ-loop
 begin-requires-2 c κs = let w = c .before .before .before .before .before .before in at-origin _ _ (w .before .before .before .before .before .before .before .before .before .pre .0) (w .fall .ensures)
 
-after-fall : (c : tie.After-begin2 Inv-loop2 μ-loop2 Inv-loop μ-loop) → let w = c .before .before .before .before .before .before .before in let l = w .before .before .before .before .before in let a = l .before .before .before .before .args in Emits (a .samples .now) (a .smoothing) (l .loop2 .r) (w .fall .result .span) (c .begin2 .result)
+after-fall : (c : tie.After-begin2 Inv-loop2 μ-loop2 Inv-loop μ-loop) → let w = c .before .before .before .before .before .before .before in
+    let l = w .before .before .before .before .before in
+    let a = l .before .before .before .before .args in
+    Emits (a .samples .now) (a .smoothing) (l .loop2 .r) (w .fall .result .span) (c .begin2 .result)
 after-fall c = let w = c .before .before .before .before .before .before .before in restarts _ _ (w .before .before .before .before .before .before .before .before .before .pre .0) (w .fall .ensures) (c .begin2 .ensures)
 
 loop-less : tie.Need-loop-less Inv-loop2 μ-loop2 Inv-loop μ-loop
@@ -144,7 +153,9 @@ loop-again c =
     rw (f .write3 .ensures .0, f .write3 .ensures .1) (kept-turn _ _ (kept l) _ _ (after-fall c))
 
 -- ---- step 4
-passes-3 : (c : tie.Else2 Inv-loop2 μ-loop2 Inv-loop μ-loop) → let l = c .before .before .before .before in let a = l .before .before .before .before .args in test3 (dataOf (a .samples .now) (a .smoothing)) (stateOf (l .loop2 .r)) ≡ false
+passes-3 : (c : tie.Else2 Inv-loop2 μ-loop2 Inv-loop μ-loop) → let l = c .before .before .before .before in
+    let a = l .before .before .before .before .args in
+    test3 (dataOf (a .samples .now) (a .smoothing)) (stateOf (l .loop2 .r)) ≡ false
 passes-3 c = sym (c .before .falls .ensures) ∙ c .if2 .left
 
 rises-requires : tie.Need-rises-requires Inv-loop2 μ-loop2 Inv-loop μ-loop
@@ -166,7 +177,10 @@ add-m-3 c = omega (arith, few (c .before .before .before .before .before .before
 begin-requires-3 : tie.Need-begin-requires-3 Inv-loop2 μ-loop2 Inv-loop μ-loop
 begin-requires-3 c κs = let w = c .before .before .before .before .before .before in at-origin _ _ (w .before .before .before .before .before .before .before .before .before .before .before .pre .0) (w .rise .ensures)
 
-after-rise : (c : tie.After-begin3 Inv-loop2 μ-loop2 Inv-loop μ-loop) → let w = c .before .before .before .before .before .before .before in let l = w .before .before .before .before .before .before .before in let a = l .before .before .before .before .args in Emits (a .samples .now) (a .smoothing) (l .loop2 .r) (w .rise .result .span) (c .begin3 .result)
+after-rise : (c : tie.After-begin3 Inv-loop2 μ-loop2 Inv-loop μ-loop) → let w = c .before .before .before .before .before .before .before in
+    let l = w .before .before .before .before .before .before .before in
+    let a = l .before .before .before .before .args in
+    Emits (a .samples .now) (a .smoothing) (l .loop2 .r) (w .rise .result .span) (c .begin3 .result)
 after-rise c = let w = c .before .before .before .before .before .before .before in restarts _ _ (w .before .before .before .before .before .before .before .before .before .before .before .pre .0) (w .rise .ensures) (c .begin3 .ensures)
 
 loop-less-2 : tie.Need-loop-less-2 Inv-loop2 μ-loop2 Inv-loop μ-loop
@@ -182,7 +196,9 @@ loop-again-2 c =
 more-requires : tie.Need-more-requires Inv-loop2 μ-loop2 Inv-loop μ-loop
 more-requires c κs = let e = c .before .before .before .before in let l = e .before .before in (l .before .before .before .before .pre .0, (kept l .good, e .if1 .left))
 
-further : (c : tie.After-more Inv-loop2 μ-loop2 Inv-loop μ-loop) → let l = c .before .before .before .before .before .before .before in let s = l .before .before .before .before in Goes (s .args .samples .now) (s .args .smoothing) (s .pre .0) (l .loop2 .r) (c .more .result)
+further : (c : tie.After-more Inv-loop2 μ-loop2 Inv-loop μ-loop) → let l = c .before .before .before .before .before .before .before in
+    let s = l .before .before .before .before in
+    Goes (s .args .samples .now) (s .args .smoothing) (s .pre .0) (l .loop2 .r) (c .more .result)
 further c =
     let g = c .before in
     let f = g .before .before in

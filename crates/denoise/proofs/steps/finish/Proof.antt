@@ -52,7 +52,8 @@ passes-8 c = sym (c .before .below .ensures) ∙ c .if1 .left
 fires-9 : (c : tie.Then2) → let r = c .before .before .before .before .before .before .before .args .r in belowOf (r .max) (r .at) ≡ true
 fires-9 c = sym (c .before .below2 .ensures) ∙ c .if2 .taken
 
-ahead-9 : (c : tie.Then2) → let a = c .before .before .before .before .before .before .before .args in (a .r .i < a .r .max .k) × (a .r .max .k < length (a .samples .now))
+ahead-9 : (c : tie.Then2) → let a = c .before .before .before .before .before .before .before .args in
+    (a .r .i < a .r .max .k) × (a .r .max .k < length (a .samples .now))
 ahead-9 c = let s = c .before .before .before .before .before .before .before in ahead _ _ (s .pre .0) (s .pre .1 .0) (step-9 (s .args .samples .now) (s .args .smoothing) (s .args .r) (s .pre .1 .1) (passes-8 (c .before .before)) (fires-9 c))
 
 after-rise-requires : tie.Need-after-rise-requires

@@ -28,7 +28,8 @@ abbrev μ-loop : tie.MeasureT-loop
 read-u : (s : tie.Start Inv-loop μ-loop) → toZ w64 (ofZ w64 (s .args .m .u)) ≡ s .args .m .u
 read-u s = let u = s .pre .0 .dual in clean (search cleaning depth 12) tt
 
-read-v : (s : tie.Start Inv-loop μ-loop) → toZ w64 (ofZ w64 (toZ w64 (ofZ w64 (s .args .p .n)) *ℤ toZ w64 (ofZ w64 (s .args .m .u)))) ≡ s .args .p .n *ℤ s .args .m .u
+read-v : (s : tie.Start Inv-loop μ-loop) →
+    toZ w64 (ofZ w64 (toZ w64 (ofZ w64 (s .args .p .n)) *ℤ toZ w64 (ofZ w64 (s .args .m .u)))) ≡ s .args .p .n *ℤ s .args .m .u
 read-v s = let u = s .pre .0 .dual in let p = s .pre .0 .small in clean (search cleaning depth 12) tt
 
 add-end : tie.Need-add-end Inv-loop μ-loop
@@ -47,7 +48,8 @@ loop-holds c =
 abbrev start : tie.At-loop Inv-loop μ-loop → tie.Start Inv-loop μ-loop
 start l = l .before .before .before .before .before .before .before .before
 
-short : (l : tie.At-loop Inv-loop μ-loop) → let s = start l in (s .args .m .i + s .args .p .len ≤ length (s .args .samples .now)) × (s .args .m .i + s .args .p .len ≤ 65536)
+short : (l : tie.At-loop Inv-loop μ-loop) → let s = start l in
+    (s .args .m .i + s .args .p .len ≤ length (s .args .samples .now)) × (s .args .m .i + s .args .p .len ≤ 65536)
 short l = let F = start l .pre .0 in (F .upto, omega (arith, F .upto, F .minutes))
 
 minute-requires : tie.Need-minute-requires Inv-loop μ-loop

@@ -56,7 +56,9 @@ finish-requires c κs =
 enum-known-p : tie.Need-enum-known-p Inv-loop2 μ-loop2 Inv-loop μ-loop
 enum-known-p c = search needs
 
-emitted : (c : tie.After-p Inv-loop2 μ-loop2 Inv-loop μ-loop) → let l = c .before .before .before .before .before in let a = l .before .before .before .args in Emits (a .samples .now) (a .smoothing) (l .loop2 .r) (c .p .given .0 .0) (c .p .given .0 .1 .0)
+emitted : (c : tie.After-p Inv-loop2 μ-loop2 Inv-loop μ-loop) → let l = c .before .before .before .before .before in
+    let a = l .before .before .before .args in
+    Emits (a .samples .now) (a .smoothing) (l .loop2 .r) (c .p .given .0 .0) (c .p .given .0 .1 .0)
 emitted c = let l = c .before .before .before .before .before in let a = l .before .before .before .args in subst (Advanced (a .samples .now) (a .smoothing) (l .loop2 .r)) (c .p .given .1) (c .before .before .finish .ensures)
 
 fill-requires : tie.Need-fill-requires Inv-loop2 μ-loop2 Inv-loop μ-loop
@@ -77,7 +79,9 @@ loop2-again c =
 enum-known-p-2 : tie.Need-enum-known-p-2 Inv-loop2 μ-loop2 Inv-loop μ-loop
 enum-known-p-2 c = search needs
 
-stopped : (c : tie.After-p2 Inv-loop2 μ-loop2 Inv-loop μ-loop) → let l = c .before .before .before .before .before in let a = l .before .before .before .args in Stops (a .samples .now) (a .smoothing) (l .loop2 .r) (c .p2 .given .0 .0)
+stopped : (c : tie.After-p2 Inv-loop2 μ-loop2 Inv-loop μ-loop) → let l = c .before .before .before .before .before in
+    let a = l .before .before .before .args in
+    Stops (a .samples .now) (a .smoothing) (l .loop2 .r) (c .p2 .given .0 .0)
 stopped c = let l = c .before .before .before .before .before in let a = l .before .before .before .args in subst (Advanced (a .samples .now) (a .smoothing) (l .loop2 .r)) (c .p2 .given .1) (c .before .before .finish .ensures)
 
 fill-requires-2 : tie.Need-fill-requires-2 Inv-loop2 μ-loop2 Inv-loop μ-loop
@@ -111,7 +115,10 @@ fill-requires-3 c κs = let w = c .before in let l = w .before .before .before .
 begin-requires-2 : tie.Need-begin-requires-2 Inv-loop2 μ-loop2 Inv-loop μ-loop
 begin-requires-2 c κs = let w = c .before .before .before in at-origin _ _ (w .before .before .before .before .before .before .before .before .pre .0) (w .fall .ensures)
 
-after-fall : (c : tie.After-begin2 Inv-loop2 μ-loop2 Inv-loop μ-loop) → let w = c .before .before .before .before in let l = w .before .before .before .before .before in let a = l .before .before .before .args in Emits (a .samples .now) (a .smoothing) (l .loop2 .r) (w .fall .result .span) (c .begin2 .result)
+after-fall : (c : tie.After-begin2 Inv-loop2 μ-loop2 Inv-loop μ-loop) → let w = c .before .before .before .before in
+    let l = w .before .before .before .before .before in
+    let a = l .before .before .before .args in
+    Emits (a .samples .now) (a .smoothing) (l .loop2 .r) (w .fall .result .span) (c .begin2 .result)
 after-fall c = let w = c .before .before .before .before in restarts _ _ (w .before .before .before .before .before .before .before .before .pre .0) (w .fall .ensures) (c .begin2 .ensures)
 
 loop-less : tie.Need-loop-less Inv-loop2 μ-loop2 Inv-loop μ-loop
@@ -124,7 +131,9 @@ loop-again c =
     rw (f .fill3 .ensures .0, f .fill3 .ensures .1) (traced-turn _ _ _ (l .before .before .before .pre .0) (kept l) _ (after-fall c))
 
 -- ---- step 4
-passes-3 : (c : tie.Else2 Inv-loop2 μ-loop2 Inv-loop μ-loop) → let l = c .before .before .before .before in let a = l .before .before .before .args in test3 (dataOf (a .samples .now) (a .smoothing)) (stateOf (l .loop2 .r)) ≡ false
+passes-3 : (c : tie.Else2 Inv-loop2 μ-loop2 Inv-loop μ-loop) → let l = c .before .before .before .before in
+    let a = l .before .before .before .args in
+    test3 (dataOf (a .samples .now) (a .smoothing)) (stateOf (l .loop2 .r)) ≡ false
 passes-3 c = sym (c .before .falls .ensures) ∙ c .if2 .left
 
 rises-requires : tie.Need-rises-requires Inv-loop2 μ-loop2 Inv-loop μ-loop
@@ -143,7 +152,10 @@ fill-requires-4 c κs = let w = c .before in let l = w .before .before .before .
 begin-requires-3 : tie.Need-begin-requires-3 Inv-loop2 μ-loop2 Inv-loop μ-loop
 begin-requires-3 c κs = let w = c .before .before .before in at-origin _ _ (w .before .before .before .before .before .before .before .before .before .before .pre .0) (w .rise .ensures)
 
-after-rise : (c : tie.After-begin3 Inv-loop2 μ-loop2 Inv-loop μ-loop) → let w = c .before .before .before .before in let l = w .before .before .before .before .before .before .before in let a = l .before .before .before .args in Emits (a .samples .now) (a .smoothing) (l .loop2 .r) (w .rise .result .span) (c .begin3 .result)
+after-rise : (c : tie.After-begin3 Inv-loop2 μ-loop2 Inv-loop μ-loop) → let w = c .before .before .before .before in
+    let l = w .before .before .before .before .before .before .before in
+    let a = l .before .before .before .args in
+    Emits (a .samples .now) (a .smoothing) (l .loop2 .r) (w .rise .result .span) (c .begin3 .result)
 after-rise c = let w = c .before .before .before .before in restarts _ _ (w .before .before .before .before .before .before .before .before .before .before .pre .0) (w .rise .ensures) (c .begin3 .ensures)
 
 loop-less-2 : tie.Need-loop-less-2 Inv-loop2 μ-loop2 Inv-loop μ-loop
@@ -159,7 +171,9 @@ loop-again-2 c =
 more-requires : tie.Need-more-requires Inv-loop2 μ-loop2 Inv-loop μ-loop
 more-requires c κs = let e = c .before .before .before .before in let l = e .before .before in (l .before .before .before .pre .0, (kept l .good, e .if1 .left))
 
-further : (c : tie.After-more Inv-loop2 μ-loop2 Inv-loop μ-loop) → let l = c .before .before .before .before .before .before .before in let s = l .before .before .before in Goes (s .args .samples .now) (s .args .smoothing) (s .pre .0) (l .loop2 .r) (c .more .result)
+further : (c : tie.After-more Inv-loop2 μ-loop2 Inv-loop μ-loop) → let l = c .before .before .before .before .before .before .before in
+    let s = l .before .before .before in
+    Goes (s .args .samples .now) (s .args .smoothing) (s .pre .0) (l .loop2 .r) (c .more .result)
 further c =
     let g = c .before in
     let f = g .before .before in

@@ -10,7 +10,8 @@ use Rattle.layout.proofs.inner.decode.Statement.{statement}
 use Rattle.layout.proofs.inner.decode.Tie as tie
 
 -- the header's numbers, as `f` has them
-fits : (c : tie.Start) → let f = c .args .f in (length (c .args .sheet .now) ≡ size (f .minutes) (f .segments)) × (f .minutes ≤ 65536) × (f .segments ≤ f .minutes)
+fits : (c : tie.Start) → let f = c .args .f in
+    (length (c .args .sheet .now) ≡ size (f .minutes) (f .segments)) × (f .minutes ≤ 65536) × (f .segments ≤ f .minutes)
 fits c =
     let o = c .pre .0 in
     rw (c .pre .1 .0) (length-as-in-table _ (o .table), o .few, o .fewer)
