@@ -15,7 +15,7 @@ use Rattle.integers.specs.Products.{low}
 use Rattle.optimality.specs.Series.{Minute}
 use Rattle.optimality.specs.Conditions.{after, Turn, Optimal}
 use Rattle.optimality.specs.Cost.{misfit, variation, cost, distance}
-use Rattle.optimality.specs.Along.{Turns, Meets, meets↔optimal}
+use Rattle.optimality.specs.ConditionsLaws.{Turns, Meets, meets↔optimal}
 
 -- ---- what the duals a and b at the ends add to the cost: 2 Q (b z[N] − a z[1]), which is 0 for a whole series
 unfoldable pub last : ℤ → List ℤ → ℤ

@@ -16,8 +16,8 @@ use Rattle.optimality.specs.Series.{Minute, Positive, plain}
 use Rattle.optimality.specs.Conditions.{after, dual}
 use Rattle.optimality.specs.Segments.{Segment, total-length, weigh, Weighed, IsLine, Scale, numerator, numerators}
 use Rattle.optimality.specs.Scales.{common}
-use Rattle.optimality.specs.Verdict.{of-scale, optimal}
-use Rattle.optimality.specs.Plain.{plain-positive, length-plain, line-totals}
+use Rattle.optimality.specs.FirstBreakLaws.{of-scale, optimal}
+use Rattle.optimality.specs.PlainSeries.{plain-positive, length-plain, line-totals}
 
 -- the sum of w y
 abbrev pub weighted : List Minute → ℤ

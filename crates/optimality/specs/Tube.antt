@@ -14,9 +14,9 @@ use Rattle.integers.specs.Order.{_⩽_, _⋖_, gap, gap<, ⋖→⩽}
 use Rattle.integers.specs.Linear.{int, sum, opp}
 use Rattle.integers.specs.Ring.{ring, reify}
 use Rattle.integers.specs.Certificates.{_⊕_, _⊗_, by⩽}
-use Rattle.optimality.specs.Machine.{Increments, plain-increments, Fraction}
-use Rattle.optimality.specs.Rates.{fraction, _≼_, _≺_, below, below-true, below-false, upward, downward}
-use Rattle.optimality.specs.Half.{Dir, flip, World, near-at, end-at}
+use Rattle.optimality.specs.Machine.{Increments, plain-increments}
+use Rattle.optimality.specs.Fractions.{Fraction, fraction, _≼_, _≺_, below, below-true, below-false, upward, downward}
+use Rattle.optimality.specs.SideInvariant.{Dir, flip, World, near-at, end-at}
 
 -- what is asked of the increments. Nothing is asked of the dual a
 pub record Right (d : Increments) : Type 0 where

@@ -6,13 +6,11 @@ use mathlib.Core.List.{[], _∷_}
 use mathlib.Core.Logic.{_⊎_, inl, inr, ⊎-elim}
 use native.Mathlib.Nat.{eq-or-lt-of-le}
 use native.Mathlib.Omega.{arith}
-use native.Mathlib.Decide.{decLe}
 use Prim.Native.Nat.{ℕ, suc, _<_, _≤_}
 use lib.IntN.{ℤ, pos, _-ℤ_}
-use Rattle.integers.specs.Order.{_⋖_, gap<}
+use Rattle.integers.specs.Order.{_⋖_, le-or-lt, gap<}
 use Rattle.integers.specs.Ring.{ring, reify}
-use Rattle.optimality.specs.Machine.{Fraction}
-use Rattle.optimality.specs.Rates.{fraction, _⊟_, Laws}
+use Rattle.optimality.specs.Fractions.{Fraction, fraction, _⊟_, Laws}
 
 -- the level that leads from minute i, where Z is z, to f at minute j
 abbrev pub slope : (W f : ℕ → ℤ) → ℕ → ℤ → ℕ → Fraction
@@ -61,7 +59,7 @@ module _ (δ : Dir) where
     pub last : δ .lt v (end-at i z)
 
   -- of a bound v: up to k the near side is not above it
-  pub record Half (i k : ℕ) (z : ℤ) (v : Fraction) (κ : ℕ) : Type 0 where
+  pub record IsBound (i k : ℕ) (z : ℤ) (v : Fraction) (κ : ℕ) : Type 0 where
     pub under : (j : ℕ) → i < j → j ≤ k → δ .le (near-at i z j) v
     pub mode : Touch i k z v κ ⊎ Kept i z v
 
@@ -94,9 +92,6 @@ rebase W f i κ j z c = ap₂ fraction (diff-z (f j) c z) (diff-z (W j) (W κ) (
 last-or : {j k : ℕ} → j ≤ suc k → (j ≡ suc k) ⊎ (j ≤ k)
 last-or {j} {k} h = ⊎-elim inl (λ (l : j < suc k). inr (omega arith)) (eq-or-lt-of-le h)
 
-le-or-lt : (m n : ℕ) → (m ≤ n) ⊎ (n < m)
-le-or-lt m n = elim (decLe m n) [ yes h ↦ inl h | no h ↦ inr (omega arith) ]
-
 -- what holds at suc k and up to k holds up to suc k
 one-more : {k : ℕ} (P : ℕ → Type 0) (j : ℕ) → P (suc k) → (j ≤ k → P j) → j ≤ suc k → P j
 one-more {k} P j at before h = ⊎-elim (λ (q : j ≡ suc k). subst P (sym q) at) before (last-or h)
@@ -121,7 +116,7 @@ module _ {δ : Dir} (w : World δ) where
   move-le f i κ j z c v b m h k = subst (λ r. δ .le r v) (rebase (δ .W) f i κ j z c) (laws .sub-le h k (rest i κ j b m))
 
   -- ---- step 1
-  pub fresh : (i : ℕ) (z : ℤ) → i < δ .N → Half δ i (suc i) z (near-at δ i z (suc i)) (suc i)
+  pub fresh : (i : ℕ) (z : ℤ) → i < δ .N → IsBound δ i (suc i) z (near-at δ i z (suc i)) (suc i)
   fresh i z h =
       record {
         under = λ j a b. one-more (λ m. δ .le (near-at δ i z m) (near-at δ i z (suc i))) j (self i z (suc i) (omega arith) h) (λ b′. absurd (omega arith)) b;
@@ -130,7 +125,7 @@ module _ {δ : Dir} (w : World δ) where
 
   module _ {i k : ℕ} {z : ℤ} {v : Fraction} {κ : ℕ} where
     -- ---- steps 5 and 6: the bound is kept or touched anew
-    pub keep : Half δ i k z v κ → δ .lt (near-at δ i z (suc k)) v → Half δ i (suc k) z v κ
+    pub keep : IsBound δ i k z v κ → δ .lt (near-at δ i z (suc k)) v → IsBound δ i (suc k) z v κ
     keep H t =
         record {
           under = λ j a. one-more (λ m. δ .le (near-at δ i z m) v) j (laws .weak t) (H .under j a);
@@ -141,7 +136,7 @@ module _ {δ : Dir} (w : World δ) where
               (H .mode);
         }
 
-    pub renew : Half δ i k z v κ → i ≤ k → suc k ≤ δ .N → δ .le v (near-at δ i z (suc k)) → Half δ i (suc k) z (near-at δ i z (suc k)) (suc k)
+    pub renew : IsBound δ i k z v κ → i ≤ k → suc k ≤ δ .N → δ .le v (near-at δ i z (suc k)) → IsBound δ i (suc k) z (near-at δ i z (suc k)) (suc k)
     renew H ik kn t =
         record {
           under = λ j a. one-more (λ m. δ .le (near-at δ i z m) (near-at δ i z (suc k))) j (self i z (suc k) (omega arith) kn) (λ b. laws .lele (H .under j a b) t);
@@ -149,10 +144,10 @@ module _ {δ : Dir} (w : World δ) where
         }
 
     -- ---- the tests 3 and 8: a bound that breaks is touched
-    pub touch3 : Half δ i k z v κ → i ≤ k → suc k ≤ δ .N → δ .lt (far-at δ i z (suc k)) v → Touch δ i k z v κ
+    pub touch3 : IsBound δ i k z v κ → i ≤ k → suc k ≤ δ .N → δ .lt (far-at δ i z (suc k)) v → Touch δ i k z v κ
     touch3 H ik kn t = ⊎-elim (λ T. T) (λ (B : Kept δ i z v). absurd (laws .irr (laws .ltle (B .free (suc k) (omega arith) kn) (laws .weak t)))) (H .mode)
 
-    pub touch8 : Half δ i k z v κ → δ .lt (end-at δ i z) v → Touch δ i k z v κ
+    pub touch8 : IsBound δ i k z v κ → δ .lt (end-at δ i z) v → Touch δ i k z v κ
     touch8 H t = ⊎-elim (λ T. T) (λ (B : Kept δ i z v). absurd (laws .irr (laws .ltle (B .last) (laws .weak t)))) (H .mode)
 
     touched : Touch δ i k z v κ → k ≤ δ .N → δ .le v (near-at δ i z κ)
@@ -211,7 +206,7 @@ module _ {δ : Dir} (w : World δ) where
           record { all = λ j a b. move-lt (δ .near) i κ j z (δ .near κ) v a b (T .beyond j a b) o; there = move-lt (λ _. δ .e) i κ (δ .N) z (δ .near κ) v before-end (omega arith) t o }
 
 -- step 8 keeps the other bound
-pub kept : {δ : Dir} (w : World δ) (w′ : World (flip δ)) {i : ℕ} {z : ℤ} {v v′ : Fraction} {κ : ℕ} (κ′ : ℕ) → Touch δ i (δ .N) z v κ → δ .lt (end-at δ i z) v → δ .le v v′ → Over δ i (δ .N) z v′ → Half (flip δ) κ (suc κ) (δ .near κ) v′ κ′
+pub kept : {δ : Dir} (w : World δ) (w′ : World (flip δ)) {i : ℕ} {z : ℤ} {v v′ : Fraction} {κ : ℕ} (κ′ : ℕ) → Touch δ i (δ .N) z v κ → δ .lt (end-at δ i z) v → δ .le v v′ → Over δ i (δ .N) z v′ → IsBound (flip δ) κ (suc κ) (δ .near κ) v′ κ′
 kept {δ} w w′ {i} {z} {v} {v′} {κ} κ′ T t c o =
     let a = ahead8 w T t in
     let l = before-end w T t in

@@ -17,8 +17,8 @@ use Rattle.optimality.specs.Conditions.{Optimal}
 use Rattle.optimality.specs.Segments.{Segment, Proper, IsLine, Scale, numerator, numerators}
 use Rattle.optimality.specs.Cost.{misfit, variation}
 use Rattle.optimality.specs.Scales.{common}
-use Rattle.optimality.specs.Verdict.{of-scale, optimal}
-use Rattle.optimality.specs.Optimum.{best, only}
+use Rattle.optimality.specs.FirstBreakLaws.{of-scale, optimal}
+use Rattle.optimality.specs.LeastCost.{best, only}
 
 -- no level is beyond ± B
 unfoldable pub Within : ℕ → List Segment → Type 0

@@ -11,9 +11,9 @@ use Rattle.integers.specs.Order.{_⋖_}
 use Rattle.optimality.specs.Segments.{Segment}
 use Rattle.optimality.specs.Machine.{Increments, State, Out, on, emit, stop, follow, begin, inside, final, step, run, line}
 use Rattle.optimality.specs.Tube.{Right, R, back-z, start-is}
-use Rattle.optimality.specs.Path.{Came, first, Meets, Path}
-use Rattle.optimality.specs.Tests.{U′, n′, test3, test4, test8, test9}
-use Rattle.optimality.specs.Steps.{Inv, Sits, Good, begun, inside-good, final-good, step-good, n-positive}
+use Rattle.optimality.specs.TubePath.{Came, first, Meets, Path}
+use Rattle.optimality.specs.StepTests.{U′, n′, test3, test4, test8, test9}
+use Rattle.optimality.specs.StepInvariant.{Inv, Sits, Good, begun, inside-good, final-good, step-good, n-positive}
 
 module _ (d : Increments) where
   open Increments d using (N)

@@ -9,7 +9,10 @@ use lib.Signed.{ltZ, ≤ℤ-refl, clashℤ}
 use Rattle.integers.specs.Order.{_⩽_, _⋖_, gap, gap<, 0⋖+, ⋖→⩽, lt-true, lt-false}
 use Rattle.integers.specs.Ring.{reify}
 use Rattle.integers.specs.Certificates.{_⊕_, _⊗_, by⩽, by0⋖, by⩽/}
-use Rattle.optimality.specs.Machine.{Fraction}
+
+pub record Fraction : Type 0 where
+  pub num : ℤ
+  pub den : ℤ
 
 abbrev pub fraction : ℤ → ℤ → Fraction
 fraction t n = record { num = t; den = n }

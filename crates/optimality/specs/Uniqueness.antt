@@ -1,4 +1,4 @@
--- A series has one line of segments. Over a common scale two lines have the same numerators (Optimum.antt), and those are cut into runs of one level
+-- A series has one line of segments. Over a common scale two lines have the same numerators (LeastCost.antt), and those are cut into runs of one level
 -- in one way, since neighbours have different levels.
 use mathlib.Core.Path.{_≡_, refl, sym, _∙_, ap, ap₂}
 use mathlib.Core.List.{List, [], _∷_, _++_}
@@ -13,8 +13,8 @@ use Rattle.integers.specs.Products.{*-cancel≡, tri}
 use Rattle.optimality.specs.Series.{Minute, Positive}
 use Rattle.optimality.specs.Segments.{Segment, cross, Differs, Proper, weigh, Weighed, IsLine, Scale, numerator, numerators}
 use Rattle.optimality.specs.Scales.{common}
-use Rattle.optimality.specs.Verdict.{of-scale, in-order, optimal}
-use Rattle.optimality.specs.Optimum.{one-line}
+use Rattle.optimality.specs.FirstBreakLaws.{of-scale, in-order, optimal}
+use Rattle.optimality.specs.LeastCost.{one-line}
 
 -- ---- runs: r does not begin with X
 Off : ℤ → List ℤ → Type 0

@@ -2,23 +2,24 @@
 -- times Q / divisor is Q times the dual; so each of its tests is a condition on the numerators.
 use mathlib.Core.Path.{_≡_, refl, _∙_, ap}
 use mathlib.Core.List.{List, [], _∷_, _++_}
-use mathlib.Core.Bool.{Bool, true, false, cond, _&&_}
+use mathlib.Core.Bool.{Bool, true, false, cond, _||_}
 use mathlib.Core.Option.{Option, none, some}
 use mathlib.Core.Logic.{inl, inr, ⊎-elim, _≢_, _↔_, Iff·rfl, Iff·trans, Iff·and}
 use Prim.Native.Nat.{ℕ, zero, suc, _+_, _<_, _/_, _%_}
 use native.Mathlib.Omega.{arith}
 use lib.ListN.{length, replicate, length-append, length-replicate}
 use lib.IntN.{ℤ, pos, negℤ, _+ℤ_, _*ℤ_, _-ℤ_}
-use lib.Signed.{leZ, ltZ, ≤ℤ-refl, <ℤ-irrefl, clashℤ}
-use Rattle.integers.specs.Order.{_⩽_, _⋖_, gap<, ⋖→⩽, 0⩽pos, 0⋖*, 0⩽*, ⩽-antisym, le-true, le-false, lt-true, lt-false, lt-or-ge}
+use lib.Signed.{ltZ, ≤ℤ-refl, <ℤ-irrefl, clashℤ}
+use Rattle.integers.specs.Order.{_⩽_, _⋖_, gap<, ⋖→⩽, 0⩽pos, 0⋖*, 0⩽*, ⩽-antisym, lt-true, lt-false, lt-or-ge}
 use Rattle.integers.specs.Ring.{ring, reify}
 use Rattle.integers.specs.Linear.{0⋖pos, int, opp}
 use Rattle.integers.specs.Certificates.{by0⋖}
 use Rattle.integers.specs.Products.{*-mono, *-cancel, *-cancel<}
 use Rattle.optimality.specs.Series.{Minute}
 use Rattle.optimality.specs.Conditions.{after, Turn, Optimal, FirstBreak}
-use Rattle.optimality.specs.Segments.{Segment, cross, total-length, Differs, Proper, WellFormed, then-v, side, between, test, break-from, first-break, IsLine, Scale, numerator, numerators}
-use Rattle.optimality.specs.Along.{Turns, Meets, Breaks, meets↔optimal, breaks→first}
+use Rattle.optimality.specs.Search.{found}
+use Rattle.optimality.specs.Segments.{Segment, cross, total-length, Differs, Proper, WellFormed, then-v, by-divisor, side, outside, break-from, first-break, IsLine, Scale, numerator, numerators}
+use Rattle.optimality.specs.ConditionsLaws.{Turns, Meets, Breaks, meets↔optimal, breaks→first}
 use Rattle.optimality.specs.Scales.{Quotient, quotient}
 
 -- ---- turns
@@ -88,15 +89,15 @@ Verdict Q L b U i ms xs (some k) = Breaks Q L b U i ms xs k
 
 -- a test that is the condition at the first minute, and a verdict on the rest
 tested : (Q L b U : ℤ) (i : ℕ) (m : Minute) (ms : List Minute) (x : ℤ) (xs : List ℤ) (lo v hi : ℤ) (rest : Option ℕ) → (Turns Q L b (after Q U m x) x xs ↔ ((lo ⩽ v) × (v ⩽ hi))) →
-    (Turns Q L b (after Q U m x) x xs → Verdict Q L b (after Q U m x) (suc i) ms xs rest) → Verdict Q L b U i (m ∷ ms) (x ∷ xs) (test (between lo v hi) i rest)
+    (Turns Q L b (after Q U m x) x xs → Verdict Q L b (after Q U m x) (suc i) ms xs rest) → Verdict Q L b U i (m ∷ ms) (x ∷ xs) (found (outside lo v hi) i rest)
 unfolding Meets Breaks
-tested Q L b U i m ms x xs lo v hi rest f = go (leZ lo v) (leZ v hi) refl refl rest
+tested Q L b U i m ms x xs lo v hi rest f = go (ltZ v lo) (ltZ hi v) refl refl rest
   where
-    go : (r r′ : Bool) → leZ lo v ≡ r → leZ v hi ≡ r′ → (rest : Option ℕ) → (Turns Q L b (after Q U m x) x xs → Verdict Q L b (after Q U m x) (suc i) ms xs rest) → Verdict Q L b U i (m ∷ ms) (x ∷ xs) (test (r && r′) i rest)
-    go true true e e′ none g = let t = f .1 (le-true e, le-true e′) in (t, g t)
-    go true true e e′ (some k) g = let t = f .1 (le-true e, le-true e′) in inr (t, g t)
-    go true false e e′ rest g = inl (λ t. clashℤ (le-false e′) (f .0 t .1), refl)
-    go false r′ e e′ rest g = inl (λ t. clashℤ (le-false e) (f .0 t .0), refl)
+    go : (r r′ : Bool) → ltZ v lo ≡ r → ltZ hi v ≡ r′ → (rest : Option ℕ) → (Turns Q L b (after Q U m x) x xs → Verdict Q L b (after Q U m x) (suc i) ms xs rest) → Verdict Q L b U i (m ∷ ms) (x ∷ xs) (found (r || r′) i rest)
+    go true r′ e e′ rest g = inl (λ t. clashℤ (lt-true e) (f .0 t .0), refl)
+    go false true e e′ rest g = inl (λ t. clashℤ (lt-true e′) (f .0 t .1), refl)
+    go false false e e′ none g = let t = f .1 (lt-false e, lt-false e′) in (t, g t)
+    go false false e e′ (some k) g = let t = f .1 (lt-false e, lt-false e′) in inr (t, g t)
 
 module _ (Q : ℕ) (q : 0 < Q) where
   pub of-scale : (s : Segment) → Q % s .divisor ≡ 0 → Quotient (pos Q) (pos (s .divisor)) (pos (Q / s .divisor))
@@ -117,18 +118,21 @@ module _ (Q : ℕ) (q : 0 < Q) where
     judge i (m ∷ ms) s v zero ss k l d r z U f = absurd (omega arith)
     judge i (m ∷ []) s v (suc zero) [] k l d r z U f =
         let g = of-scale s (z .0) in
-        tested (pos Q) L b U i m [] _ [] _ _ _ none (at-end g _ _ (moved g U v (m .weight) (m .sample) (s .total) f) b) (λ t. tt)
+        tested (pos Q) L b U i m [] (numerator Q s) [] (by-divisor s b) (then-v s v m) (by-divisor s b) none
+        (at-end g _ _ (moved g U v (m .weight) (m .sample) (s .total) f) b) (λ t. tt)
     judge i (m ∷ m′ ∷ ms) s v (suc zero) [] k l d r z U f = absurd (omega arith)
     judge i (m ∷ ms) s v (suc zero) (t ∷ ss) k l d r z U f =
         let g = of-scale s (z .0) in
         let U′ : ℤ = after (pos Q) U m (numerator Q s) in
         let turn = Iff·trans (turn-into (pos Q) L b U′ (numerator Q s) (numerator Q t) (t .len) (numerators Q ss) (r .0)) (at-turn s t (z .0) (z .1 .0) d U′) in
-        tested (pos Q) L b U i m ms _ _ _ _ _ _ (Iff·trans turn (at-end g _ _ (moved g U v (m .weight) (m .sample) (s .total) f) (side L s t)))
+        tested (pos Q) L b U i m ms (numerator Q s) (numerators Q (t ∷ ss)) (by-divisor s (side L s t)) (then-v s v m) (by-divisor s (side L s t)) _
+        (Iff·trans turn (at-end g _ _ (moved g U v (m .weight) (m .sample) (s .total) f) (side L s t)))
         (λ h. judge (suc i) ms t _ (t .len) ss (r .0) (omega arith) (r .1) (r .2) (z .1) _ (turn .0 h ∙ at-scale (of-scale t (z .1 .0)) (side L s t)))
     judge i (m ∷ ms) s v (suc (suc n)) ss k l d r z U f =
         let g = of-scale s (z .0) in
         let f′ = moved g U v (m .weight) (m .sample) (s .total) f in
-        tested (pos Q) L b U i m ms _ _ _ _ _ _ (inside g _ _ f′ L (numerator Q s)) (λ h. judge (suc i) ms s (then-v s v m) (suc n) ss (omega arith) (omega arith) d r z _ f′)
+        tested (pos Q) L b U i m ms (numerator Q s) (replicate (suc n) (numerator Q s) ++ numerators Q ss) (by-divisor s (negℤ L)) (then-v s v m) (by-divisor s L) _
+        (inside g _ _ f′ L (numerator Q s)) (λ h. judge (suc i) ms s (then-v s v m) (suc n) ss (omega arith) (omega arith) d r z _ f′)
 
     verdict : (a : ℤ) (ms : List Minute) (ss : List Segment) → Proper ss → total-length ss ≡ length ms → Scale Q ss → Verdict (pos Q) L b (pos Q *ℤ a) 1 ms (numerators Q ss) (first-break L a b ms ss)
     unfolding Proper total-length Scale numerators first-break Meets

@@ -1,5 +1,5 @@
 -- THE THEOREM: the machine's line is the line of its series: it is well formed and meets conditions (6) and (7).
--- Of a path through the tube (Path.antt), dual times divisor at minute j is D (R j − z) − (W j − W i) total, so the tube's bounds are (6)'s.
+-- Of a path through the tube (TubePath.antt), dual times divisor at minute j is D (R j − z) − (W j − W i) total, so the tube's bounds are (6)'s.
 use mathlib.Core.Path.{_≡_, refl, sym, _∙_, ap, subst}
 use mathlib.Core.Logic.{_≢_}
 use mathlib.Core.Bool.{Bool, true, false}
@@ -14,27 +14,23 @@ use lib.IntN.{ℤ, pos, negℤ, _+ℤ_, _*ℤ_, _-ℤ_}
 use lib.Signed.{leZ, ltZ}
 use Rattle.integers.specs.Order.{_⩽_, _⋖_, ⋖→⩽, gap, gap<}
 use Rattle.integers.specs.Laws.{one-*ℤ}
-use Rattle.integers.specs.Linear.{int, lt-no}
+use Rattle.integers.specs.Linear.{int, lt-yes, lt-no}
 use Rattle.integers.specs.Ring.{ring, reify}
 use Rattle.integers.specs.Certificates.{by⩽, by0⋖}
 use Rattle.optimality.specs.Series.{Minute, plain-minute, plain, Positive}
-use Rattle.optimality.specs.Segments.{Segment, cross, total-length, Differs, Proper, weigh, Weighed, then-v, by-divisor, side, between, break-from, first-break, IsLine}
+use Rattle.optimality.specs.Segments.{Segment, cross, total-length, Differs, Proper, weigh, Weighed, then-v, by-divisor, side, outside, break-from, first-break, IsLine}
 use Rattle.optimality.specs.Machine.{Increments, increments, plain-increments, line, plain-line}
-use Rattle.optimality.specs.Rates.{_≺_}
+use Rattle.optimality.specs.Fractions.{_≺_}
 use Rattle.optimality.specs.Tube.{Right, plain-right, prefix, Side, floor, roof, lt, W, R, edge, edge-is, back-z, start-is}
-use Rattle.optimality.specs.Path.{level, Piece, Turn, Path}
-use Rattle.optimality.specs.Sound.{line-path}
+use Rattle.optimality.specs.TubePath.{level, Piece, Turn, Path}
+use Rattle.optimality.specs.MachineLaws.{line-path}
 
 -- ---- a test that passes
-yes : (b : Bool) → T b → b ≡ true
-yes true t = refl
-yes false t = absurd t
+inside : (lo v hi : ℤ) → lo ⩽ v → v ⩽ hi → outside lo v hi ≡ false
+inside lo v hi h k = rw (lt-no h, lt-no k)
 
-both : (lo v hi : ℤ) → lo ⩽ v → v ⩽ hi → between lo v hi ≡ true
-both lo v hi h k = rw (yes (leZ lo v) (h .le), yes (leZ v hi) (k .le))
-
-same : (x y : ℤ) → x ≡ y → between x y x ≡ true
-same x y e = both x y x (omega int) (omega int)
+same : (x y : ℤ) → x ≡ y → outside x y x ≡ false
+same x y e = inside x y x (omega int) (omega int)
 
 -- ---- levels that differ
 cross-z : (t n u m : ℤ) → n *ℤ u ⋖ m *ℤ t → u *ℤ n ⋖ t *ℤ m
@@ -55,7 +51,7 @@ module _ (d : Increments) where
 
   side-is : (σ : Side) (s t : Segment) → lt σ (level t) (level s) → side L s t ≡ edge d σ
   side-is floor s t h = rw (lt-no (⋖→⩽ (lower s t h)))
-  side-is roof s t h = rw (yes (ltZ (cross s t) (cross t s)) (lower t s h .lt))
+  side-is roof s t h = rw (lt-yes (lower t s h))
 
   -- ---- the form
   proper : (i : ℕ) (z : ℤ) (l : List Segment) → Path d i z l → Proper l
@@ -127,11 +123,11 @@ module _ (L a b : ℤ) (ms : List Minute) where
     stop-is : value m ≡ D *ℤ (R d m -ℤ (z +ℤ g .total))
     stop-is = ap (λ x. D *ℤ (R d m -ℤ z) -ℤ x *ℤ g .total) (sym (P .weighed)) ∙ stop-z D (R d m) z (g .total)
 
-    within : (j : ℕ) → i < j → j ≤ m → between (by-divisor g (negℤ L)) (value j) (by-divisor g L) ≡ true
-    within j h k = both (by-divisor g (negℤ L)) (value j) (by-divisor g L) (low-z D (R d j) z L (W d j -ℤ W d i) (g .total) (P .inside roof j h k .cross)) (high-z D (R d j) z L (W d j -ℤ W d i) (g .total) (P .inside floor j h k .cross))
+    within : (j : ℕ) → i < j → j ≤ m → outside (by-divisor g (negℤ L)) (value j) (by-divisor g L) ≡ false
+    within j h k = inside (by-divisor g (negℤ L)) (value j) (by-divisor g L) (low-z D (R d j) z L (W d j -ℤ W d i) (g .total) (P .inside roof j h k .cross)) (high-z D (R d j) z L (W d j -ℤ W d i) (g .total) (P .inside floor j h k .cross))
 
     -- the last minute, where the dual is u
-    exact : (u : ℤ) → u ≡ R d m -ℤ (z +ℤ g .total) → between (by-divisor g u) (value m) (by-divisor g u) ≡ true
+    exact : (u : ℤ) → u ≡ R d m -ℤ (z +ℤ g .total) → outside (by-divisor g u) (value m) (by-divisor g u) ≡ false
     exact u e = same (by-divisor g u) (value m) (ap (λ u. D *ℤ u) e ∙ sym stop-is)
 
     -- what is left to hold at its last minute x

@@ -1,4 +1,4 @@
--- A line is the minimum (RULES 2.5): over a common scale Q a candidate's cost times 2 Q² is (Q / q)² times that over q, so all that Optimum.antt
+-- A line is the minimum (RULES 2.5): over a common scale Q a candidate's cost times 2 Q² is (Q / q)² times that over q, so all that LeastCost.antt
 -- says of numerators over Q is said of it.
 use mathlib.Core.Path.{_≡_, refl, sym, _∙_, ap, ap₂}
 use mathlib.Core.List.{List, [], _∷_}
@@ -14,9 +14,9 @@ use Rattle.optimality.specs.Segments.{Segment, IsLine, numerators}
 use Rattle.optimality.specs.Cost.{misfit, variation, cost, distance}
 use Rattle.optimality.specs.Minimum.{times, Minimum, squares, PlainMinimum}
 use Rattle.optimality.specs.Scales.{quotient}
-use Rattle.optimality.specs.Verdict.{optimal}
-use Rattle.optimality.specs.Optimum.{best}
-use Rattle.optimality.specs.Plain.{plain-positive, length-plain}
+use Rattle.optimality.specs.FirstBreakLaws.{optimal}
+use Rattle.optimality.specs.LeastCost.{best}
+use Rattle.optimality.specs.PlainSeries.{plain-positive, length-plain}
 
 -- ---- a scale that is c times larger
 length-times : (c : ℤ) (ps : List ℤ) → length (times c ps) ≡ length ps

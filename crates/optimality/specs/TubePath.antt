@@ -1,5 +1,5 @@
 -- What the machine's segments have to be, told of Z (Tube.antt): they stay in the tube, and turn only where Z touches it: down at the floor,
--- up at the roof. Correct.antt reads conditions (6) and (7) off it.
+-- up at the roof. Correctness.antt reads conditions (6) and (7) off it.
 use mathlib.Core.Path.{_≡_, refl, sym, _∙_, ap, subst, subst₂}
 use mathlib.Core.List.{List, [], _∷_}
 use native.Mathlib.Omega.{arith}
@@ -9,9 +9,9 @@ use Rattle.integers.specs.Order.{_⋖_}
 use Rattle.integers.specs.Linear.{int, size}
 use Rattle.integers.specs.Ring.{ring, reify}
 use Rattle.optimality.specs.Segments.{Segment}
-use Rattle.optimality.specs.Machine.{Increments, Fraction, segment}
-use Rattle.optimality.specs.Rates.{fraction}
-use Rattle.optimality.specs.Half.{near-at}
+use Rattle.optimality.specs.Machine.{Increments, segment}
+use Rattle.optimality.specs.Fractions.{Fraction, fraction}
+use Rattle.optimality.specs.SideInvariant.{near-at}
 use Rattle.optimality.specs.Tube.{Side, floor, le, lt, W, R, away, dir}
 
 -- how a segment was come to: it is the first, or the line left the level p where it touched a side

@@ -1,7 +1,7 @@
--- Each of the ten steps keeps the invariant, and what it closes continues a path through the tube (Path.antt).
+-- Each of the ten steps keeps the invariant, and what it closes continues a path through the tube (TubePath.antt).
 -- The bounds of a state are seen from their sides: steps 3 and 4 are one lemma, and so are 5 and 6, and 8 and 9.
 use mathlib.Core.Path.{_≡_, refl, sym, subst, subst₂}
-use mathlib.Core.Bool.{Bool, true, false}
+use mathlib.Core.Bool.{Bool, true, false, cond}
 use mathlib.Core.List.{List, [], _∷_}
 use mathlib.Core.Logic.{⊎-elim}
 use native.Mathlib.Omega.{arith}
@@ -10,12 +10,12 @@ use Prim.Native.Nat.{ℕ, suc, _-_, _<_, _≤_}
 use lib.IntN.{ℤ, pos, _+ℤ_, _-ℤ_}
 use Rattle.integers.specs.Order.{_⋖_}
 use Rattle.optimality.specs.Segments.{Segment}
-use Rattle.optimality.specs.Machine.{Increments, Fraction, State, Out, on, emit, stop, segment, pick, begin, more, inside, keep-max, keep-min, final, step}
-use Rattle.optimality.specs.Tests.{U′, n′, test3, test4, keeps-min, keeps-max, test8, test9, step-inside, step-final}
-use Rattle.optimality.specs.Rates.{fraction, _≼_, upward}
-use Rattle.optimality.specs.Half.{flip, near-at, far-at, end-at, Touch, Half, Over, Ahead, last, wider, fresh, keep, renew, touch3, touch8, before-end, ahead3, ahead8, next-near, next-far4, next-far9, next-end, kept}
+use Rattle.optimality.specs.Machine.{Increments, State, Out, on, emit, stop, segment, begin, more, inside, keep-max, keep-min, final, step}
+use Rattle.optimality.specs.StepTests.{U′, n′, test3, test4, keeps-min, keeps-max, test8, test9, step-inside, step-final}
+use Rattle.optimality.specs.Fractions.{Fraction, fraction, _≼_, upward}
+use Rattle.optimality.specs.SideInvariant.{flip, near-at, far-at, end-at, Touch, IsBound, Over, Ahead, last, wider, fresh, keep, renew, touch3, touch8, before-end, ahead3, ahead8, next-near, next-far4, next-far9, next-end, kept}
 use Rattle.optimality.specs.Tube.{Right, Side, floor, roof, other, le, lt, under, under-true, under-false, W, R, away, dir, edge, sum-is, weight-is, first-is, new, new-is, end-is, edge-is, world, mirror}
-use Rattle.optimality.specs.Path.{Came, first, past, Inside, Next, Meets, Closing, turned, closed, Path}
+use Rattle.optimality.specs.TubePath.{Came, first, past, Inside, Next, Meets, Closing, turned, closed, Path}
 
 -- ---- the invariant
 abbrev pub bound : Side → State → Fraction
@@ -35,8 +35,8 @@ module _ (d : Increments) where
     pub upto : s .k ≤ N
     pub sum : s .U ≡ R d (s .k) -ℤ z
     pub weight : s .n ≡ W d (s .k) -ℤ W d (s .i)
-    pub low : Half (dir d floor) (s .i) (s .k) z (bound floor s) (s .kmin)
-    pub high : Half (dir d roof) (s .i) (s .k) z (bound roof s) (s .kmax)
+    pub low : IsBound (dir d floor) (s .i) (s .k) z (bound floor s) (s .kmin)
+    pub high : IsBound (dir d roof) (s .i) (s .k) z (bound roof s) (s .kmax)
     pub ordered : bound floor s ≼ bound roof s
 
   -- how the segment was come to
@@ -73,8 +73,8 @@ module _ (d : Increments) (r : Right d) where
     begin-is floor = new-is d floor i (suc i) z (u +ℤ p i) (w i) (sum-is d i z u at) (first-is d i)
     begin-is roof = new-is d roof i (suc i) z (u +ℤ p i) (w i) (sum-is d i z u at) (first-is d i)
 
-    begin-half : (σ : Side) → Half (dir d σ) i (suc i) z (bound σ (begin d i u)) (suc i)
-    begin-half σ = subst (λ v. Half (dir d σ) i (suc i) z v (suc i)) (sym (begin-is σ)) (fresh (world d r σ) i z h)
+    begin-bound : (σ : Side) → IsBound (dir d σ) i (suc i) z (bound σ (begin d i u)) (suc i)
+    begin-bound σ = subst (λ v. IsBound (dir d σ) i (suc i) z v (suc i)) (sym (begin-is σ)) (fresh (world d r σ) i z h)
 
     pub begun : Inv d z (begin d i u)
     begun = record {
@@ -82,8 +82,8 @@ module _ (d : Increments) (r : Right d) where
       upto = h;
       sum = sum-is d i z u at;
       weight = first-is d i;
-      low = begin-half floor;
-      high = begin-half roof;
+      low = begin-bound floor;
+      high = begin-bound roof;
       ordered = subst₂ _≼_ (sym (begin-is floor)) (sym (begin-is roof)) (world d r floor .tube i z (suc i) (omega arith) h);
     }
 
@@ -112,9 +112,9 @@ module _ (d : Increments) (r : Right d) where
     abbrev cut : Side → Segment
     cut σ = segment (κ σ - s .i) ((v σ) .den) ((v σ) .num)
 
-    half : (σ : Side) → Half (dir d σ) (s .i) (s .k) z (v σ) (κ σ)
-    half floor = I .low
-    half roof = I .high
+    is-bound : (σ : Side) → IsBound (dir d σ) (s .i) (s .k) z (v σ) (κ σ)
+    is-bound floor = I .low
+    is-bound roof = I .high
 
     ordered : (σ : Side) → le σ (v σ) (v (other σ))
     ordered floor = I .ordered
@@ -174,18 +174,18 @@ module _ (d : Increments) (r : Right d) where
       breaks : (σ : Side) → under σ (v′ (other σ)) (v σ) ≡ true → Closes d c z s (cut σ) (begin d (κ σ) (edge d σ))
       breaks σ e =
           let t : lt σ (far-at (dir d σ) (s .i) z (suc (s .k))) (v σ) = subst (λ u. lt σ u (v σ)) (v′-is (other σ)) (under-true σ (v′ (other σ)) (v σ) n′-positive (positive σ) e) in
-          let T = touch3 (world d r σ) (half σ) (omega (arith, I .from)) kn t in
+          let T = touch3 (world d r σ) (is-bound σ) (omega (arith, I .from)) kn t in
           close σ T (ahead3 (world d r σ) T kn t)
-          (next c σ (s .i) z (v σ) S (λ q A. next-near (world d r σ) A T (I .upto) (ordered σ) (over σ)) (λ q A. next-far4 (mirror d r σ) A (omega (arith, I .from)) kn (half σ .under) t))
+          (next c σ (s .i) z (v σ) S (λ q A. next-near (world d r σ) A T (I .upto) (ordered σ) (over σ)) (λ q A. next-far4 (mirror d r σ) A (omega (arith, I .from)) kn (is-bound σ .under) t))
           (begin d (κ σ) (edge d σ)) refl
           (begun (κ σ) (zκ σ) (edge d σ) (edge-is d σ (κ σ)) (omega (arith, T .upto)))
 
       -- 5 and 6: the bound is kept or touched anew
-      moves : (σ : Side) (keeps : Bool) → under σ (v′ σ) (v σ) ≡ keeps → Half (dir d σ) (s .i) (suc (s .k)) z (fraction (pick keeps ((v σ) .num) ((v′ σ) .num)) (pick keeps ((v σ) .den) ((v′ σ) .den))) (pick keeps (κ σ) (suc (s .k)))
-      moves σ true e = keep (world d r σ) (half σ) (subst (λ u. lt σ u (v σ)) (v′-is σ) (under-true σ (v′ σ) (v σ) n′-positive (positive σ) e))
+      moves : (σ : Side) (keeps : Bool) → under σ (v′ σ) (v σ) ≡ keeps → IsBound (dir d σ) (s .i) (suc (s .k)) z (fraction (cond keeps ((v σ) .num) ((v′ σ) .num)) (cond keeps ((v σ) .den) ((v′ σ) .den))) (cond keeps (κ σ) (suc (s .k)))
+      moves σ true e = keep (world d r σ) (is-bound σ) (subst (λ u. lt σ u (v σ)) (v′-is σ) (under-true σ (v′ σ) (v σ) n′-positive (positive σ) e))
       moves σ false e =
           let t = subst (λ u. le σ (v σ) u) (v′-is σ) (under-false σ (v′ σ) (v σ) n′-positive (positive σ) e) in
-          subst (λ u. Half (dir d σ) (s .i) (suc (s .k)) z u (suc (s .k))) (sym (v′-is σ)) (renew (world d r σ) (half σ) (omega (arith, I .from)) kn t)
+          subst (λ u. IsBound (dir d σ) (s .i) (suc (s .k)) z u (suc (s .k))) (sym (v′-is σ)) (renew (world d r σ) (is-bound σ) (omega (arith, I .from)) kn t)
 
       still-ordered : (keeps-min keeps-max : Bool) → v floor ≼ v′ roof → v′ floor ≼ v roof → let s′ = more d s (U′ d s) (n′ d s) keeps-min keeps-max in bound floor s′ ≼ bound roof s′
       still-ordered true true t3 t4 = I .ordered
@@ -226,7 +226,7 @@ module _ (d : Increments) (r : Right d) where
     mixed-i floor f = refl
     mixed-i roof f = refl
 
-    mix : (σ : Side) (z′ : ℤ) (f : State) → Inv d z′ f → Half (flip (dir d σ)) (f .i) (f .k) z′ (v (other σ)) (κ (other σ)) → le σ (bound σ f) (v (other σ)) → Inv d z′ (mixed σ f)
+    mix : (σ : Side) (z′ : ℤ) (f : State) → Inv d z′ f → IsBound (flip (dir d σ)) (f .i) (f .k) z′ (v (other σ)) (κ (other σ)) → le σ (bound σ f) (v (other σ)) → Inv d z′ (mixed σ f)
     mix floor z′ f F H o = record { from = F .from; upto = F .upto; sum = F .sum; weight = F .weight; low = F .low; high = H; ordered = o }
     mix roof z′ f F H o = record { from = F .from; upto = F .upto; sum = F .sum; weight = F .weight; low = H; high = F .high; ordered = o }
 
@@ -237,8 +237,8 @@ module _ (d : Increments) (r : Right d) where
       last-is : last-v ≡ end
       last-is = end-is d (s .i) z (s .U) (s .n) (subst (λ k. s .U ≡ R d k -ℤ z) kN (I .sum)) (subst (λ k. s .n ≡ W d k -ℤ W d (s .i)) kN (I .weight))
 
-      half-N : (σ : Side) → Half (dir d σ) (s .i) N z (v σ) (κ σ)
-      half-N σ = subst (λ m. Half (dir d σ) (s .i) m z (v σ) (κ σ)) kN (half σ)
+      is-bound-N : (σ : Side) → IsBound (dir d σ) (s .i) N z (v σ) (κ σ)
+      is-bound-N σ = subst (λ m. IsBound (dir d σ) (s .i) m z (v σ) (κ σ)) kN (is-bound σ)
 
       over-N : (σ : Side) → Over (dir d σ) (s .i) N z (v (other σ))
       over-N σ = subst (λ m. Over (dir d σ) (s .i) m z (v (other σ))) kN (over σ)
@@ -248,20 +248,20 @@ module _ (d : Increments) (r : Right d) where
       ends σ e =
           let t : lt σ end (v σ) = subst (λ u. lt σ u (v σ)) last-is (under-true σ last-v (v σ) (n-positive I) (positive σ) e) in
           let ω = world d r σ in
-          let T = touch8 ω (half-N σ) t in
+          let T = touch8 ω (is-bound-N σ) t in
           let A = ahead8 ω T t in
           let h : κ σ < N = before-end ω T t in
           let f = begin d (κ σ) (edge d σ) in
           let o = subst (λ u. le σ u (v (other σ))) (sym (begin-is (κ σ) (zκ σ) (edge d σ) (edge-is d σ (κ σ)) h σ)) (ω .laws .weak (ω .laws .ltle (A .all (suc (κ σ)) (omega arith) h) (ordered σ))) in
-          close σ (touch8 ω (half σ) t) (last A)
-          (next c σ (s .i) z (v σ) S (λ q B. next-near ω B T (omega arith) (ordered σ) (over-N σ)) (λ q B. next-far9 (mirror d r σ) B (half-N σ .under) t))
+          close σ (touch8 ω (is-bound σ) t) (last A)
+          (next c σ (s .i) z (v σ) S (λ q B. next-near ω B T (omega arith) (ordered σ) (over-N σ)) (λ q B. next-far9 (mirror d r σ) B (is-bound-N σ .under) t))
           (mixed σ f) (mixed-i σ f)
           (mix σ (zκ σ) f (begun (κ σ) (zκ σ) (edge d σ) (edge-is d σ (κ σ)) h) (kept ω (mirror d r σ) (κ (other σ)) T t (ordered σ) (over-N σ)) o)
 
       -- 10: the level to the end lies between the bounds
       inside-end : v floor ≼ end → end ≼ v roof → Inside d (s .i) N z end
-      inside-end t8 t9 floor j h k = upward .lele (half-N floor .under j h k) t8
-      inside-end t8 t9 roof j h k = upward .lele t9 (half-N roof .under j h k)
+      inside-end t8 t9 floor j h k = upward .lele (is-bound-N floor .under j h k) t8
+      inside-end t8 t9 roof j h k = upward .lele t9 (is-bound-N roof .under j h k)
 
       stops : v floor ≼ last-v → last-v ≼ v roof → Meets d c (s .i) z (segment (N - s .i) (s .n) (s .U -ℤ b) ∷ [])
       unfolding Path

@@ -9,7 +9,7 @@ use lib.Signed.{ltZ-yes}
 use Rattle.integers.specs.Order.{_⩽_}
 use Rattle.optimality.specs.Series.{Positive, plain, plain-minute}
 use Rattle.optimality.specs.Segments.{Segment, total-length, Proper, weigh, Weighed, WellFormed, IsLine}
-use Rattle.optimality.specs.Unique.{unique}
+use Rattle.optimality.specs.Uniqueness.{unique}
 
 -- ---- the series
 pub plain-positive : (ys : List ℤ) → Positive (plain ys)
