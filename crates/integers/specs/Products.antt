@@ -37,16 +37,6 @@ pub low : (L u d : ℤ) → negℤ L ⩽ u → u ⩽ L → negℤ L *ℤ absℤ 
 low L u (pos n) h k = low⁺ L u (pos n) (0⩽pos n) h
 low L u (negsuc n) h k = low⁻ L u (pos (suc n)) (0⩽pos (suc n)) k
 
-high⁺ : (L u D : ℤ) → pos 0 ⩽ D → u ⩽ L → u *ℤ D ⩽ L *ℤ D
-high⁺ L u D p h = by⩽ (L ∷ u ∷ D ∷ []) (gap h ⊗ p) (search reify depth 12) refl
-
-high⁻ : (L u D : ℤ) → pos 0 ⩽ D → negℤ L ⩽ u → u *ℤ negℤ D ⩽ L *ℤ D
-high⁻ L u D p h = by⩽ (L ∷ u ∷ D ∷ []) (gap h ⊗ p) (search reify depth 12) refl
-
-pub high : (L u d : ℤ) → negℤ L ⩽ u → u ⩽ L → u *ℤ d ⩽ L *ℤ absℤ d
-high L u (pos n) h k = high⁺ L u (pos n) (0⩽pos n) k
-high L u (negsuc n) h k = high⁻ L u (pos (suc n)) (0⩽pos (suc n)) h
-
 -- x < y, x = y or y < x
 pub tri : (x y : ℤ) → (x ⋖ y) ⊎ ((x ≡ y) ⊎ (y ⋖ x))
 tri x y = ⊎-elim inl (λ (g : y ⩽ x). inr (⊎-elim (λ (l : y ⋖ x). inr l) (λ (l : x ⩽ y). inl (omega int)) (lt-or-ge y x))) (lt-or-ge x y)

@@ -2,16 +2,14 @@
 -- Of a path through the tube (TubePath.antt), dual times divisor at minute j is D (R j − z) − (W j − W i) total, so the tube's bounds are (6)'s.
 use mathlib.Core.Path.{_≡_, refl, sym, _∙_, ap, subst}
 use mathlib.Core.Logic.{_≢_}
-use mathlib.Core.Bool.{Bool, true, false}
+use mathlib.Core.Bool.{false}
 use mathlib.Core.List.{List, [], _∷_, map}
 use mathlib.Core.Option.{none}
 use native.Mathlib.Omega.{arith}
 use Prim.Native.Nat.{ℕ, zero, suc, _+_, _<_, _≤_}
-use lib.Dec.{T}
 use lib.Seq.{drop-cons, drop-drop}
 use lib.ListN.{length, length-map, getD, drop, List·getD-map}
 use lib.IntN.{ℤ, pos, negℤ, _+ℤ_, _*ℤ_, _-ℤ_}
-use lib.Signed.{leZ, ltZ}
 use Rattle.integers.specs.Order.{_⩽_, _⋖_, ⋖→⩽, gap, gap<}
 use Rattle.integers.specs.Laws.{one-*ℤ}
 use Rattle.integers.specs.Linear.{int, lt-yes, lt-no}
