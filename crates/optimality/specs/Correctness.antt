@@ -104,7 +104,10 @@ module _ (L a b : ℤ) (ms : List Minute) where
   weighed : (i : ℕ) (z : ℤ) (l : List Segment) → Path d i z l → Weighed (drop i ms) l
   unfolding Path Weighed
   weighed i z [] P = tt
-  weighed i z (g ∷ l) P = (P .0 .weighed ∙ sym (weigh-is (g .len) i (i + g .len) refl (P .0 .upto)), rw drop-drop (weighed (i + g .len) (z +ℤ g .total) l (P .2)))
+  weighed i z (g ∷ l) P = (
+    P .0 .weighed ∙ sym (weigh-is (g .len) i (i + g .len) refl (P .0 .upto)),
+    rw drop-drop (weighed (i + g .len) (z +ℤ g .total) l (P .2)),
+  )
 
   -- ---- (6) and (7) along a segment from minute i, where Z is z, to minute m
   module _ (i m : ℕ) (z : ℤ) (g : Segment) (P : Piece d i m z g) where
@@ -122,7 +125,9 @@ module _ (L a b : ℤ) (ms : List Minute) where
     stop-is = ap (λ x. D *ℤ (R d m -ℤ z) -ℤ x *ℤ g .total) (sym (P .weighed)) ∙ stop-z D (R d m) z (g .total)
 
     within : (j : ℕ) → i < j → j ≤ m → outside (by-divisor g (negℤ L)) (value j) (by-divisor g L) ≡ false
-    within j h k = inside (by-divisor g (negℤ L)) (value j) (by-divisor g L) (low-z D (R d j) z L (W d j -ℤ W d i) (g .total) (P .inside roof j h k .cross)) (high-z D (R d j) z L (W d j -ℤ W d i) (g .total) (P .inside floor j h k .cross))
+    within j h k =
+        inside (by-divisor g (negℤ L)) (value j) (by-divisor g L) (low-z D (R d j) z L (W d j -ℤ W d i) (g .total) (P .inside roof j h k .cross))
+        (high-z D (R d j) z L (W d j -ℤ W d i) (g .total) (P .inside floor j h k .cross))
 
     -- the last minute, where the dual is u
     exact : (u : ℤ) → u ≡ R d m -ℤ (z +ℤ g .total) → outside (by-divisor g u) (value m) (by-divisor g u) ≡ false
@@ -134,8 +139,13 @@ module _ (L a b : ℤ) (ms : List Minute) where
 
     along : (l : List Segment) → Ends l → (n j k : ℕ) → i ≤ j → j + suc n ≡ m → break-from L b k (drop j ms) g (value j) (suc n) l ≡ none
     unfolding break-from
-    along l ends zero j k h e = let q : suc j ≡ m = omega arith in rw (next-minute j (omega (arith, P .upto))) (subst (λ n. break-from L b k (minute j ∷ drop n ms) g (value j) 1 l ≡ none) (sym q) (ends (minute j) (value j) k (then-is j ∙ ap value q)))
-    along l ends (suc n) j k h e = rw (next-minute j (omega (arith, P .upto)), then-is j, within (suc j) (omega arith) (omega arith)) (along l ends n (suc j) (suc k) (omega arith) (omega arith))
+    along l ends zero j k h e =
+        let q : suc j ≡ m = omega arith in
+        rw (next-minute j (omega (arith, P .upto)))
+        (subst (λ n. break-from L b k (minute j ∷ drop n ms) g (value j) 1 l ≡ none) (sym q) (ends (minute j) (value j) k (then-is j ∙ ap value q)))
+    along l ends (suc n) j k h e =
+        rw (next-minute j (omega (arith, P .upto)), then-is j, within (suc j) (omega arith) (omega arith))
+        (along l ends n (suc j) (suc k) (omega arith) (omega arith))
 
     whole : (l : List Segment) → Ends l → (n k : ℕ) → i + n ≡ m → break-from L b k (drop i ms) g (by-divisor g (R d i -ℤ z)) n l ≡ none
     whole l ends zero k e = absurd (omega (arith, P .some))
@@ -147,7 +157,8 @@ module _ (L a b : ℤ) (ms : List Minute) where
   turn-dual : (m : ℕ) (c : ℤ) (g t : Segment) → Turn d m c (level g) (level t) → side L g t ≡ R d m -ℤ c
   turn-dual m c g t T = side-is d (T .side) g t (T .beyond) ∙ edge-is d (T .side) m ∙ ap (λ c. R d m -ℤ c) (sym (T .met))
 
-  meets : (i : ℕ) (z : ℤ) (g : Segment) (l : List Segment) → Path d i z (g ∷ l) → (k : ℕ) → break-from L b k (drop i ms) g (by-divisor g (R d i -ℤ z)) (g .len) l ≡ none
+  meets : (i : ℕ) (z : ℤ) (g : Segment) (l : List Segment) → Path d i z (g ∷ l) → (k : ℕ) →
+      break-from L b k (drop i ms) g (by-divisor g (R d i -ℤ z)) (g .len) l ≡ none
   unfolding Path break-from
   meets i z g [] P k =
       let m = i + g .len in
@@ -165,7 +176,10 @@ module _ (L a b : ℤ) (ms : List Minute) where
 
   -- a path through the tube is the line
   pub path-line : (l : List Segment) → Path d 0 (pos 0) l → IsLine L a b ms l
-  path-line l P = record { formed = record { proper = proper d 0 (pos 0) l P; long = omega (arith, long d 0 (pos 0) l P); weighed = weighed 0 (pos 0) l P }; meets = unbroken l P }
+  path-line l P = record {
+    formed = record { proper = proper d 0 (pos 0) l P; long = omega (arith, long d 0 (pos 0) l P); weighed = weighed 0 (pos 0) l P };
+    meets = unbroken l P;
+  }
 
 -- ---- the theorem
 weight-at : (ms : List Minute) → Positive ms → (j : ℕ) → j < length ms → pos 0 ⋖ (getD ms j (plain-minute (pos 0))) .weight
@@ -174,19 +188,32 @@ weight-at [] h j k = absurd (omega arith)
 weight-at (m ∷ ms) h zero k = h .0
 weight-at (m ∷ ms) h (suc j) k = weight-at ms (h .1) j (omega arith)
 
-pub line-correct : (L a b : ℤ) (ms : List Minute) → Positive ms → 0 < length ms → pos 0 ⩽ L → negℤ L ⩽ b → b ⩽ L → IsLine L a b ms (line (increments L a b ms))
-line-correct L a b ms w some smooth least most = path-line L a b ms (line (increments L a b ms)) (line-path (increments L a b ms) (record { some = some; weights = weight-at ms w; smooth = smooth; least = least; most = most }))
+pub line-correct : (L a b : ℤ) (ms : List Minute) → Positive ms → 0 < length ms → pos 0 ⩽ L → negℤ L ⩽ b → b ⩽ L →
+    IsLine L a b ms (line (increments L a b ms))
+line-correct L a b ms w some smooth least most =
+    path-line L a b ms (line (increments L a b ms))
+    (line-path (increments L a b ms) (record { some = some; weights = weight-at ms w; smooth = smooth; least = least; most = most }))
 
 -- of a plain series
 pub plain-same : (L : ℤ) (ys : List ℤ) → increments L (pos 0) (pos 0) (plain ys) ≡ plain-increments L ys
 unfolding plain
 plain-same L ys =
-    let at : (j : ℕ) → getD (map plain-minute ys) j (plain-minute (pos 0)) ≡ plain-minute (getD ys j (pos 0)) = λ j. List·getD-map plain-minute ys j (pos 0) in
-    λ t. record { N = length-map ys plain-minute t; w = λ j. (at j t) .weight; p = λ j. (ap (λ m. m .weight *ℤ m .sample) (at j) ∙ one-*ℤ (getD ys j (pos 0))) t; L = L; a = pos 0; b = pos 0 }
+    let at : (j : ℕ) → getD (map plain-minute ys) j (plain-minute (pos 0)) ≡ plain-minute (getD ys j (pos 0)) =
+    λ j. List·getD-map plain-minute ys j (pos 0) in
+    λ t. record {
+      N = length-map ys plain-minute t;
+      w = λ j. (at j t) .weight;
+      p = λ j. (ap (λ m. m .weight *ℤ m .sample) (at j) ∙ one-*ℤ (getD ys j (pos 0))) t;
+      L = L;
+      a = pos 0;
+      b = pos 0;
+    }
 
 pub plain-line-same : (L : ℤ) (ys : List ℤ) → line (increments L (pos 0) (pos 0) (plain ys)) ≡ plain-line L ys
 plain-line-same L ys = ap line (plain-same L ys)
 
 pub plain-correct : (L : ℤ) (ys : List ℤ) → 0 < length ys → pos 0 ⩽ L → IsLine L (pos 0) (pos 0) (plain ys) (plain-line L ys)
 plain-correct L ys some smooth =
-    subst (λ l. IsLine L (pos 0) (pos 0) (plain ys) l) (plain-line-same L ys) (path-line L (pos 0) (pos 0) (plain ys) (line (increments L (pos 0) (pos 0) (plain ys))) (line-path (increments L (pos 0) (pos 0) (plain ys)) (subst Right (sym (plain-same L ys)) (plain-right L ys some smooth))))
+    subst (λ l. IsLine L (pos 0) (pos 0) (plain ys) l) (plain-line-same L ys)
+    (path-line L (pos 0) (pos 0) (plain ys) (line (increments L (pos 0) (pos 0) (plain ys)))
+    (line-path (increments L (pos 0) (pos 0) (plain ys)) (subst Right (sym (plain-same L ys)) (plain-right L ys some smooth))))

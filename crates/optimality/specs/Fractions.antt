@@ -75,7 +75,11 @@ rfl′ : (r : Fraction) → pos 0 ⋖ r .den → r ≼ r
 rfl′ r p = record { left = p; right = p; cross = ≤ℤ-refl (r .den *ℤ r .num) }
 
 lele′ : {r s q : Fraction} → r ≼ s → s ≼ q → r ≼ q
-lele′ {r} {s} {q} h k = record { left = h .left; right = k .right; cross = lele-z (r .num) (r .den) (s .num) (s .den) (q .num) (q .den) (h .left) (h .right) (k .right) (h .cross) (k .cross) }
+lele′ {r} {s} {q} h k = record {
+  left = h .left;
+  right = k .right;
+  cross = lele-z (r .num) (r .den) (s .num) (s .den) (q .num) (q .den) (h .left) (h .right) (k .right) (h .cross) (k .cross);
+}
 
 either : (r s : Fraction) → pos 0 ⋖ r .den → pos 0 ⋖ s .den → (r ≺ s) ⊎ (s ≼ r)
 either r s p q = go (below r s) refl
@@ -107,8 +111,16 @@ upward = record {
   lelt = lelt′;
   weak = weak′;
   irr = irr′;
-  sub-le = λ {r} {v} {s} h k p. record { left = p; right = h .right; cross = sub-le-z (r .num) (r .den) (v .num) (v .den) (s .num) (s .den) (h .cross) (k .cross) };
-  sub-lt = λ {r} {v} {s} h k p. record { left = p; right = h .right; cross = sub-lt-z (r .num) (r .den) (v .num) (v .den) (s .num) (s .den) (h .cross) (k .cross) };
+  sub-le = λ {r} {v} {s} h k p. record {
+    left = p;
+    right = h .right;
+    cross = sub-le-z (r .num) (r .den) (v .num) (v .den) (s .num) (s .den) (h .cross) (k .cross);
+  };
+  sub-lt = λ {r} {v} {s} h k p. record {
+    left = p;
+    right = h .right;
+    cross = sub-lt-z (r .num) (r .den) (v .num) (v .den) (s .num) (s .den) (h .cross) (k .cross);
+  };
 }
 
 pub downward : Laws (λ r s. s ≼ r) (λ r s. s ≺ r)
@@ -119,6 +131,14 @@ downward = record {
   lelt = λ h k. ltle′ k h;
   weak = weak′;
   irr = irr′;
-  sub-le = λ {r} {v} {s} h k p. record { left = h .left; right = p; cross = sup-le-z (r .num) (r .den) (v .num) (v .den) (s .num) (s .den) (h .cross) (k .cross) };
-  sub-lt = λ {r} {v} {s} h k p. record { left = h .left; right = p; cross = sup-lt-z (r .num) (r .den) (v .num) (v .den) (s .num) (s .den) (h .cross) (k .cross) };
+  sub-le = λ {r} {v} {s} h k p. record {
+    left = h .left;
+    right = p;
+    cross = sup-le-z (r .num) (r .den) (v .num) (v .den) (s .num) (s .den) (h .cross) (k .cross);
+  };
+  sub-lt = λ {r} {v} {s} h k p. record {
+    left = h .left;
+    right = p;
+    cross = sup-lt-z (r .num) (r .den) (v .num) (v .den) (s .num) (s .den) (h .cross) (k .cross);
+  };
 }

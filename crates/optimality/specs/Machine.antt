@@ -21,7 +21,14 @@ pub record Increments : Type 0 where
 -- those of a series at smoothing L, from the dual a to the dual b
 abbrev pub increments : (L a b : ℤ) → List Minute → Increments
 increments L a b ms =
-    record { N = length ms; w = λ j. getD ms j (plain-minute (pos 0)) .weight; p = λ j. getD ms j (plain-minute (pos 0)) .weight *ℤ getD ms j (plain-minute (pos 0)) .sample; L = L; a = a; b = b }
+    record {
+      N = length ms;
+      w = λ j. getD ms j (plain-minute (pos 0)) .weight;
+      p = λ j. getD ms j (plain-minute (pos 0)) .weight *ℤ getD ms j (plain-minute (pos 0)) .sample;
+      L = L;
+      a = a;
+      b = b;
+    }
 
 -- those of a plain series
 abbrev pub plain-increments : ℤ → List ℤ → Increments
@@ -109,10 +116,12 @@ module _ (d : Increments) where
 
   -- steps 8 and 9 begin a segment as 3 and 4 do, but keep the other bound
   abbrev pub keep-max : State → State → State
-  keep-max s f = record { i = f .i; k = f .k; U = f .U; n = f .n; tmin = f .tmin; nmin = f .nmin; kmin = f .kmin; tmax = s .tmax; nmax = s .nmax; kmax = s .kmax }
+  keep-max s f =
+      record { i = f .i; k = f .k; U = f .U; n = f .n; tmin = f .tmin; nmin = f .nmin; kmin = f .kmin; tmax = s .tmax; nmax = s .nmax; kmax = s .kmax }
 
   abbrev pub keep-min : State → State → State
-  keep-min s f = record { i = f .i; k = f .k; U = f .U; n = f .n; tmin = s .tmin; nmin = s .nmin; kmin = s .kmin; tmax = f .tmax; nmax = f .nmax; kmax = f .kmax }
+  keep-min s f =
+      record { i = f .i; k = f .k; U = f .U; n = f .n; tmin = s .tmin; nmin = s .nmin; kmin = s .kmin; tmax = f .tmax; nmax = f .nmax; kmax = f .kmax }
 
   -- steps 8 to 10 by the outcomes of the tests 8 and 9; step 2 is step 10 at a segment of one minute
   abbrev pub final : State → Bool → Bool → Out

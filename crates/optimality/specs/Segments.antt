@@ -73,7 +73,8 @@ break-from L b i [] s v n ss = none
 break-from L b i (m ∷ ms) s v zero ss = none
 break-from L b i (m ∷ ms) s v (suc zero) [] = found (outside (by-divisor s b) (then-v s v m) (by-divisor s b)) i none
 break-from L b i (m ∷ ms) s v (suc zero) (t ∷ ss) =
-    found (outside (by-divisor s (side L s t)) (then-v s v m) (by-divisor s (side L s t))) i (break-from L b (suc i) ms t (by-divisor t (side L s t)) (t .len) ss)
+    found (outside (by-divisor s (side L s t)) (then-v s v m) (by-divisor s (side L s t))) i
+    (break-from L b (suc i) ms t (by-divisor t (side L s t)) (t .len) ss)
 break-from L b i (m ∷ ms) s v (suc (suc n)) ss =
     found (outside (by-divisor s (negℤ L)) (then-v s v m) (by-divisor s L)) i (break-from L b (suc i) ms s (then-v s v m) (suc n) ss)
 

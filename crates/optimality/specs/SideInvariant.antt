@@ -109,10 +109,12 @@ module _ {δ : Dir} (w : World δ) where
   rest i κ j b h = subst (λ t. pos 0 ⋖ t) (sym (diff-z (δ .W j) (δ .W κ) (δ .W i))) (wider κ j b h)
 
   -- what is under v still is, seen from a point that is on v or above it
-  move-lt : (f : ℕ → ℤ) (i κ j : ℕ) (z c : ℤ) (v : Fraction) → κ < j → j ≤ δ .N → δ .lt (slope (δ .W) f i z j) v → δ .le v (fraction (c -ℤ z) (δ .W κ -ℤ δ .W i)) → δ .lt (slope (δ .W) f κ c j) v
+  move-lt : (f : ℕ → ℤ) (i κ j : ℕ) (z c : ℤ) (v : Fraction) → κ < j → j ≤ δ .N → δ .lt (slope (δ .W) f i z j) v →
+      δ .le v (fraction (c -ℤ z) (δ .W κ -ℤ δ .W i)) → δ .lt (slope (δ .W) f κ c j) v
   move-lt f i κ j z c v b m h k = subst (λ r. δ .lt r v) (rebase (δ .W) f i κ j z c) (laws .sub-lt h k (rest i κ j b m))
 
-  move-le : (f : ℕ → ℤ) (i κ j : ℕ) (z c : ℤ) (v : Fraction) → κ < j → j ≤ δ .N → δ .le (slope (δ .W) f i z j) v → δ .le v (fraction (c -ℤ z) (δ .W κ -ℤ δ .W i)) → δ .le (slope (δ .W) f κ c j) v
+  move-le : (f : ℕ → ℤ) (i κ j : ℕ) (z c : ℤ) (v : Fraction) → κ < j → j ≤ δ .N → δ .le (slope (δ .W) f i z j) v →
+      δ .le v (fraction (c -ℤ z) (δ .W κ -ℤ δ .W i)) → δ .le (slope (δ .W) f κ c j) v
   move-le f i κ j z c v b m h k = subst (λ r. δ .le r v) (rebase (δ .W) f i κ j z c) (laws .sub-le h k (rest i κ j b m))
 
   -- ---- step 1
@@ -131,7 +133,13 @@ module _ {δ : Dir} (w : World δ) where
           under = λ j a. one-more (λ m. δ .le (near-at δ i z m) v) j (laws .weak t) (H .under j a);
           mode =
               ⊎-elim
-              (λ (T : Touch δ i k z v κ). inl (record { from = T .from; upto = omega (arith, T .upto); is = T .is; beyond = λ j a. one-more (λ m. δ .lt (near-at δ i z m) v) j t (T .beyond j a) }))
+              (λ (T : Touch δ i k z v κ). inl
+              (record {
+                from = T .from;
+                upto = omega (arith, T .upto);
+                is = T .is;
+                beyond = λ j a. one-more (λ m. δ .lt (near-at δ i z m) v) j t (T .beyond j a);
+              }))
               inr
               (H .mode);
         }
@@ -139,7 +147,9 @@ module _ {δ : Dir} (w : World δ) where
     pub renew : IsBound δ i k z v κ → i ≤ k → suc k ≤ δ .N → δ .le v (near-at δ i z (suc k)) → IsBound δ i (suc k) z (near-at δ i z (suc k)) (suc k)
     renew H ik kn t =
         record {
-          under = λ j a. one-more (λ m. δ .le (near-at δ i z m) (near-at δ i z (suc k))) j (self i z (suc k) (omega arith) kn) (λ b. laws .lele (H .under j a b) t);
+          under =
+              λ j a. one-more (λ m. δ .le (near-at δ i z m) (near-at δ i z (suc k))) j (self i z (suc k) (omega arith) kn)
+              (λ b. laws .lele (H .under j a b) t);
           mode = inl (record { from = omega arith; upto = omega arith; is = refl; beyond = λ j a b. absurd (omega arith) });
         }
 
@@ -162,7 +172,9 @@ module _ {δ : Dir} (w : World δ) where
         (record {
           from = omega (arith, T .upto);
           upto = kn;
-          all = λ j a b. move-lt (δ .near) i κ j z (δ .near κ) v a (omega arith) (one-more (λ m. δ .lt (near-at δ i z m) v) j (laws .lelt (w .tube i z (suc k) (omega (arith, T .from, T .upto)) kn) t) (T .beyond j a) b) o;
+          all =
+              λ j a b. move-lt (δ .near) i κ j z (δ .near κ) v a (omega arith)
+              (one-more (λ m. δ .lt (near-at δ i z m) v) j (laws .lelt (w .tube i z (suc k) (omega (arith, T .from, T .upto)) kn) t) (T .beyond j a) b) o;
           there = move-lt (δ .far) i κ (suc k) z (δ .near κ) v (omega (arith, T .upto)) kn t o;
         })
 
@@ -177,7 +189,9 @@ module _ {δ : Dir} (w : World δ) where
 
   -- from the other bound at step 4,
   pub next-far4 : {i k : ℕ} {z : ℤ} {v′ p : Fraction} → Ahead δ i z p → i ≤ k → suc k ≤ δ .N → Over δ i k z v′ → δ .lt v′ (near-at δ i z (suc k)) → δ .lt v′ p
-  next-far4 {i} {k} (soon h s) ik kn o t = ⊎-elim (λ (l : h ≤ k). laws .lelt (o h (s .from) l) (s .there)) (λ (l : k < h). laws .ltle t (laws .weak (s .all (suc k) (omega arith) l))) (le-or-lt h k)
+  next-far4 {i} {k} (soon h s) ik kn o t =
+      ⊎-elim (λ (l : h ≤ k). laws .lelt (o h (s .from) l) (s .there)) (λ (l : k < h). laws .ltle t (laws .weak (s .all (suc k) (omega arith) l)))
+      (le-or-lt h k)
   next-far4 {i} {k} (last s) ik kn o t = laws .ltle t (laws .weak (s .all (suc k) (omega arith) kn))
 
   module _ {i : ℕ} {z : ℤ} where
@@ -196,21 +210,29 @@ module _ {δ : Dir} (w : World δ) where
       pub before-end : κ < δ .N
       before-end =
           ⊎-elim
-          (λ (q : κ ≡ δ .N). absurd (laws .irr (laws .lelt (subst (λ m. δ .le v (near-at δ i z m)) q (touched T (omega arith))) (laws .lelt (w .goal i z (omega (arith, T .from))) t))))
+          (λ (q : κ ≡ δ .N). absurd
+          (laws .irr
+          (laws .lelt (subst (λ m. δ .le v (near-at δ i z m)) q (touched T (omega arith))) (laws .lelt (w .goal i z (omega (arith, T .from))) t))))
           (λ l. l)
           (eq-or-lt-of-le (T .upto))
 
       pub ahead8 : Last δ κ (δ .near κ) v
       ahead8 =
           let o = touched T (omega arith) in
-          record { all = λ j a b. move-lt (δ .near) i κ j z (δ .near κ) v a b (T .beyond j a b) o; there = move-lt (λ _. δ .e) i κ (δ .N) z (δ .near κ) v before-end (omega arith) t o }
+          record {
+            all = λ j a b. move-lt (δ .near) i κ j z (δ .near κ) v a b (T .beyond j a b) o;
+            there = move-lt (λ _. δ .e) i κ (δ .N) z (δ .near κ) v before-end (omega arith) t o;
+          }
 
 -- step 8 keeps the other bound
-pub kept : {δ : Dir} (w : World δ) (w′ : World (flip δ)) {i : ℕ} {z : ℤ} {v v′ : Fraction} {κ : ℕ} (κ′ : ℕ) → Touch δ i (δ .N) z v κ → δ .lt (end-at δ i z) v → δ .le v v′ → Over δ i (δ .N) z v′ → IsBound (flip δ) κ (suc κ) (δ .near κ) v′ κ′
+pub kept : {δ : Dir} (w : World δ) (w′ : World (flip δ)) {i : ℕ} {z : ℤ} {v v′ : Fraction} {κ : ℕ} (κ′ : ℕ) → Touch δ i (δ .N) z v κ →
+    δ .lt (end-at δ i z) v → δ .le v v′ → Over δ i (δ .N) z v′ → IsBound (flip δ) κ (suc κ) (δ .near κ) v′ κ′
 kept {δ} w w′ {i} {z} {v} {v′} {κ} κ′ T t c o =
     let a = ahead8 w T t in
     let l = before-end w T t in
     record {
-      under = λ j h k. move-le w′ (δ .far) i κ j z (δ .near κ) v′ h (omega arith) (o j (omega (arith, T .from)) (omega arith)) (subst (λ r. δ .le r v′) (T .is) c);
+      under =
+          λ j h k. move-le w′ (δ .far) i κ j z (δ .near κ) v′ h (omega arith) (o j (omega (arith, T .from)) (omega arith))
+          (subst (λ r. δ .le r v′) (T .is) c);
       mode = inr (record { free = λ j h k. w .laws .ltle (a .all j h k) c; last = w .laws .ltle (a .there) c });
     }

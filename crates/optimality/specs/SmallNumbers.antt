@@ -97,7 +97,12 @@ module _ (L : ℤ) (ys : List ℤ) where
     begin-small i u h k =
         let n : suc i - i ≡ 1 = omega arith in
         let U : natAbs (u +ℤ y i) ≤ natAbs L + 16777216 * 1 = omega (arith, abs-+ u (y i), sample i k .upto) in
-        record { count = rw n; sum = rw n U; min = touched (u +ℤ y i) 1 (negℤ L) (abs-neg L) U (omega arith); max = touched (u +ℤ y i) 1 L refl U (omega arith) }
+        record {
+          count = rw n;
+          sum = rw n U;
+          min = touched (u +ℤ y i) 1 (negℤ L) (abs-neg L) U (omega arith);
+          max = touched (u +ℤ y i) 1 L refl U (omega arith);
+        }
 
     fallen : (κ : ℕ) → κ < length ys → Small (begin d κ L)
     fallen κ h = begin-small κ L (omega arith) h

@@ -91,7 +91,8 @@ module _ (d : Increments) (r : Right d) where
   n-positive {s = s} I = rw (I .weight) (wider (world d r floor) (s .i) (s .k) (I .from) (I .upto))
 
   -- the next level is on the right side of the last one
-  next : (c : Came) (σ : Side) (i : ℕ) (z : ℤ) (v : Fraction) → Sits d c i z → ((q : Fraction) → Ahead (dir d σ) i z q → lt σ v q) → ((q : Fraction) → Ahead (flip (dir d σ)) i z q → lt σ q v) → Next c v
+  next : (c : Came) (σ : Side) (i : ℕ) (z : ℤ) (v : Fraction) → Sits d c i z → ((q : Fraction) → Ahead (dir d σ) i z q → lt σ v q) →
+      ((q : Fraction) → Ahead (flip (dir d σ)) i z q → lt σ q v) → Next c v
   next first σ i z v S f g = tt
   next (past floor q) floor i z v S f g = f q S
   next (past floor q) roof i z v S f g = g q S
@@ -135,7 +136,8 @@ module _ (d : Increments) (r : Right d) where
     within roof roof j h k = I .high .under j h k
 
     -- the segment is closed where its bound was touched, and s′ begins there
-    close : (σ : Side) → Touch (dir d σ) (s .i) (s .k) z (v σ) (κ σ) → Ahead (dir d σ) (κ σ) (zκ σ) (v σ) → Next c (v σ) → (s′ : State) → s′ .i ≡ κ σ → Inv d (zκ σ) s′ → Closes d c z s (cut σ) s′
+    close : (σ : Side) → Touch (dir d σ) (s .i) (s .k) z (v σ) (κ σ) → Ahead (dir d σ) (κ σ) (zκ σ) (v σ) → Next c (v σ) → (s′ : State) → s′ .i ≡ κ σ →
+        Inv d (zκ σ) s′ → Closes d c z s (cut σ) s′
     close σ T A n s′ e I′ = record {
       came = past σ (v σ);
       at = zκ σ;
@@ -173,25 +175,31 @@ module _ (d : Increments) (r : Right d) where
       -- 3 and 4: the tube passes by the bound
       breaks : (σ : Side) → under σ (v′ (other σ)) (v σ) ≡ true → Closes d c z s (cut σ) (begin d (κ σ) (edge d σ))
       breaks σ e =
-          let t : lt σ (far-at (dir d σ) (s .i) z (suc (s .k))) (v σ) = subst (λ u. lt σ u (v σ)) (v′-is (other σ)) (under-true σ (v′ (other σ)) (v σ) n′-positive (positive σ) e) in
+          let t : lt σ (far-at (dir d σ) (s .i) z (suc (s .k))) (v σ) =
+          subst (λ u. lt σ u (v σ)) (v′-is (other σ)) (under-true σ (v′ (other σ)) (v σ) n′-positive (positive σ) e) in
           let T = touch3 (world d r σ) (is-bound σ) (omega (arith, I .from)) kn t in
           close σ T (ahead3 (world d r σ) T kn t)
-          (next c σ (s .i) z (v σ) S (λ q A. next-near (world d r σ) A T (I .upto) (ordered σ) (over σ)) (λ q A. next-far4 (mirror d r σ) A (omega (arith, I .from)) kn (is-bound σ .under) t))
+          (next c σ (s .i) z (v σ) S (λ q A. next-near (world d r σ) A T (I .upto) (ordered σ) (over σ))
+          (λ q A. next-far4 (mirror d r σ) A (omega (arith, I .from)) kn (is-bound σ .under) t))
           (begin d (κ σ) (edge d σ)) refl
           (begun (κ σ) (zκ σ) (edge d σ) (edge-is d σ (κ σ)) (omega (arith, T .upto)))
 
       -- 5 and 6: the bound is kept or touched anew
-      moves : (σ : Side) (keeps : Bool) → under σ (v′ σ) (v σ) ≡ keeps → IsBound (dir d σ) (s .i) (suc (s .k)) z (fraction (cond keeps ((v σ) .num) ((v′ σ) .num)) (cond keeps ((v σ) .den) ((v′ σ) .den))) (cond keeps (κ σ) (suc (s .k)))
+      moves : (σ : Side) (keeps : Bool) → under σ (v′ σ) (v σ) ≡ keeps →
+          IsBound (dir d σ) (s .i) (suc (s .k)) z (fraction (cond keeps ((v σ) .num) ((v′ σ) .num)) (cond keeps ((v σ) .den) ((v′ σ) .den)))
+          (cond keeps (κ σ) (suc (s .k)))
       moves σ true e = keep (world d r σ) (is-bound σ) (subst (λ u. lt σ u (v σ)) (v′-is σ) (under-true σ (v′ σ) (v σ) n′-positive (positive σ) e))
       moves σ false e =
           let t = subst (λ u. le σ (v σ) u) (v′-is σ) (under-false σ (v′ σ) (v σ) n′-positive (positive σ) e) in
           subst (λ u. IsBound (dir d σ) (s .i) (suc (s .k)) z u (suc (s .k))) (sym (v′-is σ)) (renew (world d r σ) (is-bound σ) (omega (arith, I .from)) kn t)
 
-      still-ordered : (keeps-min keeps-max : Bool) → v floor ≼ v′ roof → v′ floor ≼ v roof → let s′ = more d s (U′ d s) (n′ d s) keeps-min keeps-max in bound floor s′ ≼ bound roof s′
+      still-ordered : (keeps-min keeps-max : Bool) → v floor ≼ v′ roof → v′ floor ≼ v roof → let s′ = more d s (U′ d s) (n′ d s) keeps-min keeps-max in
+          bound floor s′ ≼ bound roof s′
       still-ordered true true t3 t4 = I .ordered
       still-ordered true false t3 t4 = t3
       still-ordered false true t3 t4 = t4
-      still-ordered false false t3 t4 = subst₂ _≼_ (sym (v′-is floor)) (sym (v′-is roof)) (world d r floor .tube (s .i) z (suc (s .k)) (omega (arith, I .from)) kn)
+      still-ordered false false t3 t4 =
+          subst₂ _≼_ (sym (v′-is floor)) (sym (v′-is roof)) (world d r floor .tube (s .i) z (suc (s .k)) (omega (arith, I .from)) kn)
 
       goes : v floor ≼ v′ roof → v′ floor ≼ v roof → Goes d z s (more d s (U′ d s) (n′ d s) (keeps-min d s) (keeps-max d s))
       goes t3 t4 = record {
@@ -211,7 +219,8 @@ module _ (d : Increments) (r : Right d) where
       pub inside-good : (t3 t4 : Bool) → test3 d s ≡ t3 → test4 d s ≡ t4 → Good d c z s (inside d s (U′ d s) (n′ d s) t3 t4)
       inside-good true t4 e3 e4 = breaks floor e3
       inside-good false true e3 e4 = breaks roof e4
-      inside-good false false e3 e4 = goes (under-false floor (v′ roof) (v floor) n′-positive (positive floor) e3) (under-false roof (v′ floor) (v roof) n′-positive (positive roof) e4)
+      inside-good false false e3 e4 =
+          goes (under-false floor (v′ roof) (v floor) n′-positive (positive floor) e3) (under-false roof (v′ floor) (v roof) n′-positive (positive roof) e4)
 
     -- ---- steps 8 to 10
     abbrev last-v : Fraction
@@ -226,7 +235,8 @@ module _ (d : Increments) (r : Right d) where
     mixed-i floor f = refl
     mixed-i roof f = refl
 
-    mix : (σ : Side) (z′ : ℤ) (f : State) → Inv d z′ f → IsBound (flip (dir d σ)) (f .i) (f .k) z′ (v (other σ)) (κ (other σ)) → le σ (bound σ f) (v (other σ)) → Inv d z′ (mixed σ f)
+    mix : (σ : Side) (z′ : ℤ) (f : State) → Inv d z′ f → IsBound (flip (dir d σ)) (f .i) (f .k) z′ (v (other σ)) (κ (other σ)) →
+        le σ (bound σ f) (v (other σ)) → Inv d z′ (mixed σ f)
     mix floor z′ f F H o = record { from = F .from; upto = F .upto; sum = F .sum; weight = F .weight; low = F .low; high = H; ordered = o }
     mix roof z′ f F H o = record { from = F .from; upto = F .upto; sum = F .sum; weight = F .weight; low = H; high = F .high; ordered = o }
 
@@ -252,9 +262,12 @@ module _ (d : Increments) (r : Right d) where
           let A = ahead8 ω T t in
           let h : κ σ < N = before-end ω T t in
           let f = begin d (κ σ) (edge d σ) in
-          let o = subst (λ u. le σ u (v (other σ))) (sym (begin-is (κ σ) (zκ σ) (edge d σ) (edge-is d σ (κ σ)) h σ)) (ω .laws .weak (ω .laws .ltle (A .all (suc (κ σ)) (omega arith) h) (ordered σ))) in
+          let o =
+          subst (λ u. le σ u (v (other σ))) (sym (begin-is (κ σ) (zκ σ) (edge d σ) (edge-is d σ (κ σ)) h σ))
+          (ω .laws .weak (ω .laws .ltle (A .all (suc (κ σ)) (omega arith) h) (ordered σ))) in
           close σ (touch8 ω (is-bound σ) t) (last A)
-          (next c σ (s .i) z (v σ) S (λ q B. next-near ω B T (omega arith) (ordered σ) (over-N σ)) (λ q B. next-far9 (mirror d r σ) B (is-bound-N σ .under) t))
+          (next c σ (s .i) z (v σ) S (λ q B. next-near ω B T (omega arith) (ordered σ) (over-N σ))
+          (λ q B. next-far9 (mirror d r σ) B (is-bound-N σ .under) t))
           (mixed σ f) (mixed-i σ f)
           (mix σ (zκ σ) f (begun (κ σ) (zκ σ) (edge d σ) (edge-is d σ (κ σ)) h) (kept ω (mirror d r σ) (κ (other σ)) T t (ordered σ) (over-N σ)) o)
 
@@ -280,7 +293,10 @@ module _ (d : Increments) (r : Right d) where
       pub final-good : (t8 t9 : Bool) → test8 d s ≡ t8 → test9 d s ≡ t9 → Good d c z s (final d s t8 t9)
       final-good true t9 e8 e9 = ends floor e8
       final-good false true e8 e9 = ends roof e9
-      final-good false false e8 e9 = (refl, stops (under-false floor last-v (v floor) (n-positive I) (positive floor) e8) (under-false roof last-v (v roof) (n-positive I) (positive roof) e9))
+      final-good false false e8 e9 = (
+        refl,
+        stops (under-false floor last-v (v floor) (n-positive I) (positive floor) e8) (under-false roof last-v (v roof) (n-positive I) (positive roof) e9),
+      )
 
     pub step-good : Good d c z s (step d s)
     step-good =

@@ -178,8 +178,18 @@ module _ (d : Increments) (r : Right d) where
   tube i z j h k = higher (R d j -ℤ L) (R d j +ℤ L) z (W d j -ℤ W d i) (gap< (grow i j h k)) (wide-z (R d j) L (r .smooth))
 
   pub world : (σ : Side) → World (dir d σ)
-  world floor = record { laws = upward; grow = grow; tube = tube; goal = λ i z h. higher (R d N -ℤ L) (R d N -ℤ b) z (W d N -ℤ W d i) (gap< (grow i N h (omega arith))) (above-z (R d N) L b (r .most)) }
-  world roof = record { laws = downward; grow = grow; tube = tube; goal = λ i z h. higher (R d N -ℤ b) (R d N +ℤ L) z (W d N -ℤ W d i) (gap< (grow i N h (omega arith))) (beneath-z (R d N) L b (r .least)) }
+  world floor = record {
+    laws = upward;
+    grow = grow;
+    tube = tube;
+    goal = λ i z h. higher (R d N -ℤ L) (R d N -ℤ b) z (W d N -ℤ W d i) (gap< (grow i N h (omega arith))) (above-z (R d N) L b (r .most));
+  }
+  world roof = record {
+    laws = downward;
+    grow = grow;
+    tube = tube;
+    goal = λ i z h. higher (R d N -ℤ b) (R d N +ℤ L) z (W d N -ℤ W d i) (gap< (grow i N h (omega arith))) (beneath-z (R d N) L b (r .least));
+  }
 
   pub mirror : (σ : Side) → World (flip (dir d σ))
   mirror floor = world roof

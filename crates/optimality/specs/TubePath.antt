@@ -84,14 +84,19 @@ module _ (d : Increments) where
     pub turns : Turns d m c v l
     pub path : Path d m c l
 
-  link : (came : Came) (i m : ℕ) (z c : ℤ) (g : Segment) (l : List Segment) → m ≡ i + g .len → c ≡ z +ℤ g .total → pos (g .divisor) ≡ W d m -ℤ W d i → Closing came i m z c (level g) l → Meets came i z (g ∷ l)
+  link : (came : Came) (i m : ℕ) (z c : ℤ) (g : Segment) (l : List Segment) → m ≡ i + g .len → c ≡ z +ℤ g .total → pos (g .divisor) ≡ W d m -ℤ W d i →
+      Closing came i m z c (level g) l → Meets came i z (g ∷ l)
   unfolding Path
   link came i m z c g l e f w C = record {
-    path = subst₂ (λ m c. Piece d i m z g × Turns d m c (level g) l × Path d m c l) e f (record { some = C .some; upto = C .upto; weighed = w; inside = C .inside }, C .turns, C .path);
+    path =
+        subst₂ (λ m c. Piece d i m z g × Turns d m c (level g) l × Path d m c l) e f
+        (record { some = C .some; upto = C .upto; weighed = w; inside = C .inside }, C .turns, C .path);
     follows = C .next;
   }
 
-  pub closed : {came : Came} {i m : ℕ} {z c : ℤ} {v : Fraction} {l : List Segment} → v ≡ fraction (c -ℤ z) (W d m -ℤ W d i) → Closing came i m z c v l → Meets came i z (segment (m - i) (v .den) (v .num) ∷ l)
+  pub closed : {came : Came} {i m : ℕ} {z c : ℤ} {v : Fraction} {l : List Segment} → v ≡ fraction (c -ℤ z) (W d m -ℤ W d i) → Closing came i m z c v l →
+      Meets came i z (segment (m - i) (v .den) (v .num) ∷ l)
   closed {came} {i} {m} {z} {c} {v} {l} e C =
       let w = abs-z (v .den) (C .inside floor m (C .some) (omega arith) .right) in
-      link came i m z c (segment (m - i) (v .den) (v .num)) l (omega (arith, C .some)) (arrive-z z c ∙ ap (λ v. z +ℤ v .num) (sym e)) (w ∙ ap (λ v. v .den) e) (subst (λ n. Closing came i m z c (fraction (v .num) n) l) (sym w) C)
+      link came i m z c (segment (m - i) (v .den) (v .num)) l (omega (arith, C .some)) (arrive-z z c ∙ ap (λ v. z +ℤ v .num) (sym e))
+      (w ∙ ap (λ v. v .den) e) (subst (λ n. Closing came i m z c (fraction (v .num) n) l) (sym w) C)
