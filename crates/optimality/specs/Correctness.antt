@@ -19,7 +19,7 @@ use Rattle.optimality.specs.Series.{Minute, plain-minute, plain, Positiv
 use Rattle.optimality.specs.Segments.{Segment, cross, total-length, Differs, Proper, weigh, Weighed, then-v, by-divisor, side, outside, break-from, first-break, IsLine}
 use Rattle.optimality.specs.Machine.{Increments, increments, plain-increments, line, plain-line}
 use Rattle.optimality.specs.Fractions.{_≺_}
-use Rattle.optimality.specs.Tube.{Right, plain-right, prefix, Side, floor, roof, lt, W, R, edge, edge-is, back-z, start-is}
+use Rattle.optimality.specs.Tube.{ValidIncrements, plain-valid, prefix, Side, floor, roof, lt, W, R, edge, edge-is, back-z, start-is}
 use Rattle.optimality.specs.TubePath.{level, Piece, Turn, Path}
 use Rattle.optimality.specs.MachineLaws.{line-path}
 
@@ -216,4 +216,4 @@ pub plain-correct : (L : ℤ) (ys : List ℤ) → 0 < length ys → pos 0 ⩽ L 
 plain-correct L ys some smooth =
     subst (λ l. IsLine L (pos 0) (pos 0) (plain ys) l) (plain-line-same L ys)
     (path-line L (pos 0) (pos 0) (plain ys) (line (increments L (pos 0) (pos 0) (plain ys)))
-    (line-path (increments L (pos 0) (pos 0) (plain ys)) (subst Right (sym (plain-same L ys)) (plain-right L ys some smooth))))
+    (line-path (increments L (pos 0) (pos 0) (plain ys)) (subst ValidIncrements (sym (plain-same L ys)) (plain-valid L ys some smooth))))

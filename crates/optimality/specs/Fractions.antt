@@ -1,5 +1,5 @@
 -- Fractions with positive denominators, compared by cross products. Each order holds the two signs, so that it is transitive as it stands.
--- What the machine's proof uses of it is in `Laws`, which hold of the order and of its opposite: so a proof over `Laws` serves both bounds.
+-- What the machine's proof uses of it is in `OrderLaws`, which hold of the order and of its opposite: so a proof over `OrderLaws` serves both bounds.
 use mathlib.Core.Path.{_≡_, refl}
 use mathlib.Core.Bool.{Bool, true, false}
 use mathlib.Core.List.{[], _∷_}
@@ -43,7 +43,7 @@ below-true r s p q e = record { left = p; right = q; cross = lt-true e }
 pub below-false : (r s : Fraction) → pos 0 ⋖ r .den → pos 0 ⋖ s .den → below r s ≡ false → s ≼ r
 below-false r s p q e = record { left = q; right = p; cross = lt-false e }
 
-pub record Laws (le lt : Fraction → Fraction → Type 0) : Type 0 where
+pub record OrderLaws (le lt : Fraction → Fraction → Type 0) : Type 0 where
   pub rfl : (r : Fraction) → pos 0 ⋖ r .den → le r r
   pub lele : {r s q : Fraction} → le r s → le s q → le r q
   pub ltle : {r s q : Fraction} → lt r s → le s q → lt r q
@@ -103,7 +103,7 @@ weak′ h = record { left = h .left; right = h .right; cross = ⋖→⩽ (h .cro
 irr′ : {r : Fraction} → r ≺ r → ⊥
 irr′ h = apart h (weak′ h)
 
-pub upward : Laws _≼_ _≺_
+pub upward : OrderLaws _≼_ _≺_
 upward = record {
   rfl = rfl′;
   lele = lele′;
@@ -123,7 +123,7 @@ upward = record {
   };
 }
 
-pub downward : Laws (λ r s. s ≼ r) (λ r s. s ≺ r)
+pub downward : OrderLaws (λ r s. s ≼ r) (λ r s. s ≺ r)
 downward = record {
   rfl = rfl′;
   lele = λ h k. lele′ k h;

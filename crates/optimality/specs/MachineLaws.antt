@@ -10,7 +10,7 @@ use lib.IntN.{ℤ, pos, _-ℤ_}
 use Rattle.integers.specs.Order.{_⋖_}
 use Rattle.optimality.specs.Segments.{Segment}
 use Rattle.optimality.specs.Machine.{Increments, State, Out, on, emit, stop, follow, begin, inside, final, step, run, line}
-use Rattle.optimality.specs.Tube.{Right, R, back-z, start-is}
+use Rattle.optimality.specs.Tube.{ValidIncrements, R, back-z, start-is}
 use Rattle.optimality.specs.TubePath.{Came, first, Meets, Path}
 use Rattle.optimality.specs.StepTests.{U′, n′, test3, test4, test8, test9}
 use Rattle.optimality.specs.StepInvariant.{Inv, Sits, Good, begun, inside-good, final-good, step-good, n-positive}
@@ -63,7 +63,7 @@ closed-less N i k i′ k′ h l = let m : suc (N - i′) ≤ N - i = omega arith
 start-less : (N : ℕ) → (N - 0) * suc N + (N - 1) < suc (N * suc N + N)
 start-less N = let h : N - 0 ≤ N = omega arith in omega (arith, mul-le-mul-right (suc N) h)
 
-module _ (d : Increments) (r : Right d) where
+module _ (d : Increments) (r : ValidIncrements d) where
   open Increments d using (N)
 
   pub facts : {s : State} → Sound d s → Facts d s
@@ -126,7 +126,7 @@ module _ (d : Increments) (r : Right d) where
 unfoldable pub lines : (d : Increments) → State → List Segment
 lines d s = run d (suc (left d s)) s
 
-module _ (d : Increments) (r : Right d) where
+module _ (d : Increments) (r : ValidIncrements d) where
   open Increments d using (N, a)
 
   pub lines-step : {s : State} → Sound d s → lines d s ≡ follow (lines d) (step d s)

@@ -1,5 +1,5 @@
 -- The machine's invariant, seen from one side of the tube. The tube is told in sums: W j is the weight of the first j minutes, Z j what the
--- line adds up to over them; Z stays between the two sides and ends at e. A level is the slope of Z. A `Dir` holds one side, the other, and
+-- line adds up to over them; Z stays between the two sides and ends at e. A level is the slope of Z. A `View` holds one side, the other, and
 -- the order of the levels seen from there: from the roof, its opposite. So each lemma is proved once for both bounds.
 use mathlib.Core.Path.{_≡_, refl, sym, subst, ap₂}
 use mathlib.Core.List.{[], _∷_}
@@ -10,13 +10,13 @@ use Prim.Native.Nat.{ℕ, suc, _<_, _≤_}
 use lib.IntN.{ℤ, pos, _-ℤ_}
 use Rattle.integers.specs.Order.{_⋖_, le-or-lt, gap<}
 use Rattle.integers.specs.Ring.{ring, reify}
-use Rattle.optimality.specs.Fractions.{Fraction, fraction, _⊟_, Laws}
+use Rattle.optimality.specs.Fractions.{Fraction, fraction, _⊟_, OrderLaws}
 
 -- the level that leads from minute i, where Z is z, to f at minute j
 abbrev pub slope : (W f : ℕ → ℤ) → ℕ → ℤ → ℕ → Fraction
 slope W f i z j = fraction (f j -ℤ z) (W j -ℤ W i)
 
-pub record Dir : Type 1 where
+pub record View : Type 1 where
   pub N : ℕ
   pub W : ℕ → ℤ
   pub e : ℤ
@@ -25,11 +25,11 @@ pub record Dir : Type 1 where
   pub le : Fraction → Fraction → Type 0
   pub lt : Fraction → Fraction → Type 0
 
-abbrev pub flip : Dir → Dir
+abbrev pub flip : View → View
 flip δ = record { N = δ .N; W = δ .W; e = δ .e; near = δ .far; far = δ .near; le = λ r s. δ .le s r; lt = λ r s. δ .lt s r }
 
--- The words below are those of the floor: "under" is `lt` or `le` of the direction.
-module _ (δ : Dir) where
+-- The words below are those of the floor: "under" is `lt` or `le` of the view.
+module _ (δ : View) where
   abbrev pub near-at : ℕ → ℤ → ℕ → Fraction
   near-at i z j = slope (δ .W) (δ .near) i z j
 
@@ -40,8 +40,8 @@ module _ (δ : Dir) where
   end-at i z = slope (δ .W) (λ _. δ .e) i z (δ .N)
 
   -- the tube is not inside out, and its end lies in it
-  pub record World : Type 0 where
-    pub laws : Laws (δ .le) (δ .lt)
+  pub record OpenTube : Type 0 where
+    pub laws : OrderLaws (δ .le) (δ .lt)
     pub grow : (i j : ℕ) → i < j → j ≤ δ .N → δ .W i ⋖ δ .W j
     pub tube : (i : ℕ) (z : ℤ) (j : ℕ) → i < j → j ≤ δ .N → δ .le (near-at i z j) (far-at i z j)
     pub goal : (i : ℕ) (z : ℤ) → i < δ .N → δ .le (near-at i z (δ .N)) (end-at i z)
@@ -58,7 +58,7 @@ module _ (δ : Dir) where
     pub free : (j : ℕ) → i < j → j ≤ δ .N → δ .lt v (far-at i z j)
     pub last : δ .lt v (end-at i z)
 
-  -- of a bound v: up to k the near side is not above it
+  -- v is the bound at this side: up to k the near side is not above it
   pub record IsBound (i k : ℕ) (z : ℤ) (v : Fraction) (κ : ℕ) : Type 0 where
     pub under : (j : ℕ) → i < j → j ≤ k → δ .le (near-at i z j) v
     pub mode : Touch i k z v κ ⊎ Kept i z v
@@ -96,8 +96,8 @@ last-or {j} {k} h = ⊎-elim inl (λ (l : j < suc k). inr (omega arith)) (eq-or-
 one-more : {k : ℕ} (P : ℕ → Type 0) (j : ℕ) → P (suc k) → (j ≤ k → P j) → j ≤ suc k → P j
 one-more {k} P j at before h = ⊎-elim (λ (q : j ≡ suc k). subst P (sym q) at) before (last-or h)
 
-module _ {δ : Dir} (w : World δ) where
-  open World w using (laws)
+module _ {δ : View} (w : OpenTube δ) where
+  open OpenTube w using (laws)
 
   pub wider : (i j : ℕ) → i < j → j ≤ δ .N → pos 0 ⋖ δ .W j -ℤ δ .W i
   wider i j h k = gap< (w .grow i j h k)
@@ -225,7 +225,7 @@ module _ {δ : Dir} (w : World δ) where
           }
 
 -- step 8 keeps the other bound
-pub kept : {δ : Dir} (w : World δ) (w′ : World (flip δ)) {i : ℕ} {z : ℤ} {v v′ : Fraction} {κ : ℕ} (κ′ : ℕ) → Touch δ i (δ .N) z v κ →
+pub kept : {δ : View} (w : OpenTube δ) (w′ : OpenTube (flip δ)) {i : ℕ} {z : ℤ} {v v′ : Fraction} {κ : ℕ} (κ′ : ℕ) → Touch δ i (δ .N) z v κ →
     δ .lt (end-at δ i z) v → δ .le v v′ → Over δ i (δ .N) z v′ → IsBound (flip δ) κ (suc κ) (δ .near κ) v′ κ′
 kept {δ} w w′ {i} {z} {v} {v′} {κ} κ′ T t c o =
     let a = ahead8 w T t in

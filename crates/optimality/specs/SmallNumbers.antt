@@ -15,7 +15,7 @@ use Rattle.integers.specs.Order.{_⩽_, abs-+, abs-neg}
 use Rattle.integers.specs.Bounds.{Upto, cleaning, fit}
 use Rattle.optimality.specs.Series.{plain, Bounded, Limited}
 use Rattle.optimality.specs.Machine.{Increments, plain-increments, State, Out, on, emit, stop, begin, more, inside, final, step}
-use Rattle.optimality.specs.Tube.{Right, plain-right}
+use Rattle.optimality.specs.Tube.{ValidIncrements, plain-valid}
 use Rattle.optimality.specs.StepTests.{U′, n′, test3, test4, keeps-min, keeps-max, test8, test9, step-inside, step-final}
 use Rattle.optimality.specs.MachineLaws.{Sound, Facts, After, facts, inside-after, final-after}
 
@@ -82,8 +82,8 @@ module _ (L : ℤ) (ys : List ℤ) where
   }
 
   module _ (smooth : pos 0 ⩽ L) (lim : Limited ys (natAbs L)) where
-    abbrev r : Right d
-    r = plain-right L ys (lim .some) smooth
+    abbrev r : ValidIncrements d
+    r = plain-valid L ys (lim .some) smooth
 
     sample : (j : ℕ) → j < length ys → Upto 16777216 (y j)
     sample = sample-small 16777216 ys (lim .samples)

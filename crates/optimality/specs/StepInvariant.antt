@@ -14,7 +14,7 @@ use Rattle.optimality.specs.Machine.{Increments, State, Out, on, emit, s
 use Rattle.optimality.specs.StepTests.{U′, n′, test3, test4, keeps-min, keeps-max, test8, test9, step-inside, step-final}
 use Rattle.optimality.specs.Fractions.{Fraction, fraction, _≼_, upward}
 use Rattle.optimality.specs.SideInvariant.{flip, near-at, far-at, end-at, Touch, IsBound, Over, Ahead, last, wider, fresh, keep, renew, touch3, touch8, before-end, ahead3, ahead8, next-near, next-far4, next-far9, next-end, kept}
-use Rattle.optimality.specs.Tube.{Right, Side, floor, roof, other, le, lt, under, under-true, under-false, W, R, away, dir, edge, sum-is, weight-is, first-is, new, new-is, end-is, edge-is, world, mirror}
+use Rattle.optimality.specs.Tube.{ValidIncrements, Side, floor, roof, other, le, lt, under, under-true, under-false, W, R, away, view, edge, sum-is, weight-is, first-is, new, new-is, end-is, edge-is, open-tube, mirror}
 use Rattle.optimality.specs.TubePath.{Came, first, past, Inside, Next, Meets, Closing, turned, closed, Path}
 
 -- ---- the invariant
@@ -35,14 +35,14 @@ module _ (d : Increments) where
     pub upto : s .k ≤ N
     pub sum : s .U ≡ R d (s .k) -ℤ z
     pub weight : s .n ≡ W d (s .k) -ℤ W d (s .i)
-    pub low : IsBound (dir d floor) (s .i) (s .k) z (bound floor s) (s .kmin)
-    pub high : IsBound (dir d roof) (s .i) (s .k) z (bound roof s) (s .kmax)
+    pub low : IsBound (view d floor) (s .i) (s .k) z (bound floor s) (s .kmin)
+    pub high : IsBound (view d roof) (s .i) (s .k) z (bound roof s) (s .kmax)
     pub ordered : bound floor s ≼ bound roof s
 
   -- how the segment was come to
   abbrev pub Sits : Came → ℕ → ℤ → Type 0
   Sits first i z = Unit {0}
-  Sits (past σ p) i z = Ahead (dir d σ) i z p
+  Sits (past σ p) i z = Ahead (view d σ) i z p
 
   -- ---- what a step makes of a state
   pub record Goes (z : ℤ) (s s′ : State) : Type 0 where
@@ -64,17 +64,17 @@ module _ (d : Increments) where
   Good c z s (emit g s′) = Closes c z s g s′
   Good c z s (stop g) = (g .len ≡ N - s .i) × Meets d c (s .i) z (g ∷ [])
 
-module _ (d : Increments) (r : Right d) where
+module _ (d : Increments) (r : ValidIncrements d) where
   open Increments d using (N, w, p, b)
 
   -- ---- step 1
   module _ (i : ℕ) (z u : ℤ) (at : u ≡ R d i -ℤ z) (h : i < N) where
-    begin-is : (σ : Side) → bound σ (begin d i u) ≡ near-at (dir d σ) i z (suc i)
+    begin-is : (σ : Side) → bound σ (begin d i u) ≡ near-at (view d σ) i z (suc i)
     begin-is floor = new-is d floor i (suc i) z (u +ℤ p i) (w i) (sum-is d i z u at) (first-is d i)
     begin-is roof = new-is d roof i (suc i) z (u +ℤ p i) (w i) (sum-is d i z u at) (first-is d i)
 
-    begin-bound : (σ : Side) → IsBound (dir d σ) i (suc i) z (bound σ (begin d i u)) (suc i)
-    begin-bound σ = subst (λ v. IsBound (dir d σ) i (suc i) z v (suc i)) (sym (begin-is σ)) (fresh (world d r σ) i z h)
+    begin-bound : (σ : Side) → IsBound (view d σ) i (suc i) z (bound σ (begin d i u)) (suc i)
+    begin-bound σ = subst (λ v. IsBound (view d σ) i (suc i) z v (suc i)) (sym (begin-is σ)) (fresh (open-tube d r σ) i z h)
 
     pub begun : Inv d z (begin d i u)
     begun = record {
@@ -84,15 +84,15 @@ module _ (d : Increments) (r : Right d) where
       weight = first-is d i;
       low = begin-bound floor;
       high = begin-bound roof;
-      ordered = subst₂ _≼_ (sym (begin-is floor)) (sym (begin-is roof)) (world d r floor .tube i z (suc i) (omega arith) h);
+      ordered = subst₂ _≼_ (sym (begin-is floor)) (sym (begin-is roof)) (open-tube d r floor .tube i z (suc i) (omega arith) h);
     }
 
   pub n-positive : {z : ℤ} {s : State} → Inv d z s → pos 0 ⋖ s .n
-  n-positive {s = s} I = rw (I .weight) (wider (world d r floor) (s .i) (s .k) (I .from) (I .upto))
+  n-positive {s = s} I = rw (I .weight) (wider (open-tube d r floor) (s .i) (s .k) (I .from) (I .upto))
 
   -- the next level is on the right side of the last one
-  next : (c : Came) (σ : Side) (i : ℕ) (z : ℤ) (v : Fraction) → Sits d c i z → ((q : Fraction) → Ahead (dir d σ) i z q → lt σ v q) →
-      ((q : Fraction) → Ahead (flip (dir d σ)) i z q → lt σ q v) → Next c v
+  next : (c : Came) (σ : Side) (i : ℕ) (z : ℤ) (v : Fraction) → Sits d c i z → ((q : Fraction) → Ahead (view d σ) i z q → lt σ v q) →
+      ((q : Fraction) → Ahead (flip (view d σ)) i z q → lt σ q v) → Next c v
   next first σ i z v S f g = tt
   next (past floor q) floor i z v S f g = f q S
   next (past floor q) roof i z v S f g = g q S
@@ -113,7 +113,7 @@ module _ (d : Increments) (r : Right d) where
     abbrev cut : Side → Segment
     cut σ = segment (κ σ - s .i) ((v σ) .den) ((v σ) .num)
 
-    is-bound : (σ : Side) → IsBound (dir d σ) (s .i) (s .k) z (v σ) (κ σ)
+    is-bound : (σ : Side) → IsBound (view d σ) (s .i) (s .k) z (v σ) (κ σ)
     is-bound floor = I .low
     is-bound roof = I .high
 
@@ -121,7 +121,7 @@ module _ (d : Increments) (r : Right d) where
     ordered floor = I .ordered
     ordered roof = I .ordered
 
-    over : (σ : Side) → Over (dir d σ) (s .i) (s .k) z (v (other σ))
+    over : (σ : Side) → Over (view d σ) (s .i) (s .k) z (v (other σ))
     over floor = I .high .under
     over roof = I .low .under
 
@@ -136,7 +136,7 @@ module _ (d : Increments) (r : Right d) where
     within roof roof j h k = I .high .under j h k
 
     -- the segment is closed where its bound was touched, and s′ begins there
-    close : (σ : Side) → Touch (dir d σ) (s .i) (s .k) z (v σ) (κ σ) → Ahead (dir d σ) (κ σ) (zκ σ) (v σ) → Next c (v σ) → (s′ : State) → s′ .i ≡ κ σ →
+    close : (σ : Side) → Touch (view d σ) (s .i) (s .k) z (v σ) (κ σ) → Ahead (view d σ) (κ σ) (zκ σ) (v σ) → Next c (v σ) → (s′ : State) → s′ .i ≡ κ σ →
         Inv d (zκ σ) s′ → Closes d c z s (cut σ) s′
     close σ T A n s′ e I′ = record {
       came = past σ (v σ);
@@ -166,32 +166,33 @@ module _ (d : Increments) (r : Right d) where
       weight′ : n′ d s ≡ W d (suc (s .k)) -ℤ W d (s .i)
       weight′ = weight-is d (s .i) (s .k) (s .n) (I .weight)
 
-      v′-is : (σ : Side) → v′ σ ≡ near-at (dir d σ) (s .i) z (suc (s .k))
+      v′-is : (σ : Side) → v′ σ ≡ near-at (view d σ) (s .i) z (suc (s .k))
       v′-is σ = new-is d σ (s .i) (suc (s .k)) z (U′ d s) (n′ d s) sum′ weight′
 
       n′-positive : pos 0 ⋖ n′ d s
-      n′-positive = rw weight′ (wider (world d r floor) (s .i) (suc (s .k)) (omega (arith, I .from)) kn)
+      n′-positive = rw weight′ (wider (open-tube d r floor) (s .i) (suc (s .k)) (omega (arith, I .from)) kn)
 
       -- 3 and 4: the tube passes by the bound
       breaks : (σ : Side) → under σ (v′ (other σ)) (v σ) ≡ true → Closes d c z s (cut σ) (begin d (κ σ) (edge d σ))
       breaks σ e =
-          let t : lt σ (far-at (dir d σ) (s .i) z (suc (s .k))) (v σ) =
+          let t : lt σ (far-at (view d σ) (s .i) z (suc (s .k))) (v σ) =
           subst (λ u. lt σ u (v σ)) (v′-is (other σ)) (under-true σ (v′ (other σ)) (v σ) n′-positive (positive σ) e) in
-          let T = touch3 (world d r σ) (is-bound σ) (omega (arith, I .from)) kn t in
-          close σ T (ahead3 (world d r σ) T kn t)
-          (next c σ (s .i) z (v σ) S (λ q A. next-near (world d r σ) A T (I .upto) (ordered σ) (over σ))
+          let T = touch3 (open-tube d r σ) (is-bound σ) (omega (arith, I .from)) kn t in
+          close σ T (ahead3 (open-tube d r σ) T kn t)
+          (next c σ (s .i) z (v σ) S (λ q A. next-near (open-tube d r σ) A T (I .upto) (ordered σ) (over σ))
           (λ q A. next-far4 (mirror d r σ) A (omega (arith, I .from)) kn (is-bound σ .under) t))
           (begin d (κ σ) (edge d σ)) refl
           (begun (κ σ) (zκ σ) (edge d σ) (edge-is d σ (κ σ)) (omega (arith, T .upto)))
 
       -- 5 and 6: the bound is kept or touched anew
       moves : (σ : Side) (keeps : Bool) → under σ (v′ σ) (v σ) ≡ keeps →
-          IsBound (dir d σ) (s .i) (suc (s .k)) z (fraction (cond keeps ((v σ) .num) ((v′ σ) .num)) (cond keeps ((v σ) .den) ((v′ σ) .den)))
+          IsBound (view d σ) (s .i) (suc (s .k)) z (fraction (cond keeps ((v σ) .num) ((v′ σ) .num)) (cond keeps ((v σ) .den) ((v′ σ) .den)))
           (cond keeps (κ σ) (suc (s .k)))
-      moves σ true e = keep (world d r σ) (is-bound σ) (subst (λ u. lt σ u (v σ)) (v′-is σ) (under-true σ (v′ σ) (v σ) n′-positive (positive σ) e))
+      moves σ true e = keep (open-tube d r σ) (is-bound σ) (subst (λ u. lt σ u (v σ)) (v′-is σ) (under-true σ (v′ σ) (v σ) n′-positive (positive σ) e))
       moves σ false e =
           let t = subst (λ u. le σ (v σ) u) (v′-is σ) (under-false σ (v′ σ) (v σ) n′-positive (positive σ) e) in
-          subst (λ u. IsBound (dir d σ) (s .i) (suc (s .k)) z u (suc (s .k))) (sym (v′-is σ)) (renew (world d r σ) (is-bound σ) (omega (arith, I .from)) kn t)
+          subst (λ u. IsBound (view d σ) (s .i) (suc (s .k)) z u (suc (s .k))) (sym (v′-is σ))
+          (renew (open-tube d r σ) (is-bound σ) (omega (arith, I .from)) kn t)
 
       still-ordered : (keeps-min keeps-max : Bool) → v floor ≼ v′ roof → v′ floor ≼ v roof → let s′ = more d s (U′ d s) (n′ d s) keeps-min keeps-max in
           bound floor s′ ≼ bound roof s′
@@ -199,7 +200,7 @@ module _ (d : Increments) (r : Right d) where
       still-ordered true false t3 t4 = t3
       still-ordered false true t3 t4 = t4
       still-ordered false false t3 t4 =
-          subst₂ _≼_ (sym (v′-is floor)) (sym (v′-is roof)) (world d r floor .tube (s .i) z (suc (s .k)) (omega (arith, I .from)) kn)
+          subst₂ _≼_ (sym (v′-is floor)) (sym (v′-is roof)) (open-tube d r floor .tube (s .i) z (suc (s .k)) (omega (arith, I .from)) kn)
 
       goes : v floor ≼ v′ roof → v′ floor ≼ v roof → Goes d z s (more d s (U′ d s) (n′ d s) (keeps-min d s) (keeps-max d s))
       goes t3 t4 = record {
@@ -235,29 +236,29 @@ module _ (d : Increments) (r : Right d) where
     mixed-i floor f = refl
     mixed-i roof f = refl
 
-    mix : (σ : Side) (z′ : ℤ) (f : State) → Inv d z′ f → IsBound (flip (dir d σ)) (f .i) (f .k) z′ (v (other σ)) (κ (other σ)) →
+    mix : (σ : Side) (z′ : ℤ) (f : State) → Inv d z′ f → IsBound (flip (view d σ)) (f .i) (f .k) z′ (v (other σ)) (κ (other σ)) →
         le σ (bound σ f) (v (other σ)) → Inv d z′ (mixed σ f)
     mix floor z′ f F H o = record { from = F .from; upto = F .upto; sum = F .sum; weight = F .weight; low = F .low; high = H; ordered = o }
     mix roof z′ f F H o = record { from = F .from; upto = F .upto; sum = F .sum; weight = F .weight; low = H; high = F .high; ordered = o }
 
     module _ (kN : s .k ≡ N) where
       abbrev end : Fraction
-      end = end-at (dir d floor) (s .i) z
+      end = end-at (view d floor) (s .i) z
 
       last-is : last-v ≡ end
       last-is = end-is d (s .i) z (s .U) (s .n) (subst (λ k. s .U ≡ R d k -ℤ z) kN (I .sum)) (subst (λ k. s .n ≡ W d k -ℤ W d (s .i)) kN (I .weight))
 
-      is-bound-N : (σ : Side) → IsBound (dir d σ) (s .i) N z (v σ) (κ σ)
-      is-bound-N σ = subst (λ m. IsBound (dir d σ) (s .i) m z (v σ) (κ σ)) kN (is-bound σ)
+      is-bound-N : (σ : Side) → IsBound (view d σ) (s .i) N z (v σ) (κ σ)
+      is-bound-N σ = subst (λ m. IsBound (view d σ) (s .i) m z (v σ) (κ σ)) kN (is-bound σ)
 
-      over-N : (σ : Side) → Over (dir d σ) (s .i) N z (v (other σ))
-      over-N σ = subst (λ m. Over (dir d σ) (s .i) m z (v (other σ))) kN (over σ)
+      over-N : (σ : Side) → Over (view d σ) (s .i) N z (v (other σ))
+      over-N σ = subst (λ m. Over (view d σ) (s .i) m z (v (other σ))) kN (over σ)
 
       -- 8 and 9: the end passes by the bound
       ends : (σ : Side) → under σ last-v (v σ) ≡ true → Closes d c z s (cut σ) (mixed σ (begin d (κ σ) (edge d σ)))
       ends σ e =
           let t : lt σ end (v σ) = subst (λ u. lt σ u (v σ)) last-is (under-true σ last-v (v σ) (n-positive I) (positive σ) e) in
-          let ω = world d r σ in
+          let ω = open-tube d r σ in
           let T = touch8 ω (is-bound-N σ) t in
           let A = ahead8 ω T t in
           let h : κ σ < N = before-end ω T t in
@@ -285,7 +286,9 @@ module _ (d : Increments) (r : Right d) where
             some = omega (arith, I .from);
             upto = omega arith;
             inside = inside-end t8 t9;
-            next = next c floor (s .i) z end S (λ q A. next-end (world d r floor) A (over-N floor) t9) (λ q A. next-end (world d r roof) A (over-N roof) t8);
+            next =
+                next c floor (s .i) z end S (λ q A. next-end (open-tube d r floor) A (over-N floor) t9)
+                (λ q A. next-end (open-tube d r roof) A (over-N roof) t8);
             turns = tt;
             path = (refl, refl);
           }))

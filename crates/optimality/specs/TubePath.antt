@@ -12,7 +12,7 @@ use Rattle.optimality.specs.Segments.{Segment}
 use Rattle.optimality.specs.Machine.{Increments, segment}
 use Rattle.optimality.specs.Fractions.{Fraction, fraction}
 use Rattle.optimality.specs.SideInvariant.{near-at}
-use Rattle.optimality.specs.Tube.{Side, floor, le, lt, W, R, away, dir}
+use Rattle.optimality.specs.Tube.{Side, floor, le, lt, W, R, away, view}
 
 -- how a segment was come to: it is the first, or the line left the level p where it touched a side
 pub data Came : Type 0 where
@@ -33,7 +33,7 @@ module _ (d : Increments) where
 
   -- from minute i, where Z is z, the level v stays in the tube up to minute m
   abbrev pub Inside : ℕ → ℕ → ℤ → Fraction → Type 0
-  Inside i m z v = (σ : Side) (j : ℕ) → i < j → j ≤ m → le σ (near-at (dir d σ) i z j) v
+  Inside i m z v = (σ : Side) (j : ℕ) → i < j → j ≤ m → le σ (near-at (view d σ) i z j) v
 
   pub record Piece (i m : ℕ) (z : ℤ) (g : Segment) : Type 0 where
     pub some : i < m
