@@ -2,9 +2,9 @@
 -- Of a path through the tube (TubePath.antt), dual times divisor at minute j is D (R j − z) − (W j − W i) total, so the tube's bounds are (6)'s.
 use mathlib.Core.Path.{_≡_, refl, sym, _∙_, ap, subst}
 use mathlib.Core.Logic.{_≢_}
-use mathlib.Core.Bool.{false}
+use mathlib.Core.Bool.{Bool, false}
 use mathlib.Core.List.{List, [], _∷_, map}
-use mathlib.Core.Option.{none}
+use mathlib.Core.Option.{Option, none}
 use native.Mathlib.Omega.{arith}
 use Prim.Native.Nat.{ℕ, zero, suc, _+_, _<_, _≤_}
 use lib.Seq.{drop-cons, drop-drop}
@@ -16,6 +16,7 @@ use Rattle.integers.specs.Linear.{int, lt-yes, lt-no}
 use Rattle.integers.specs.Ring.{ring, reify}
 use Rattle.integers.specs.Certificates.{by⩽, by0⋖}
 use Rattle.optimality.specs.Series.{Minute, plain-minute, plain, Positive}
+use Rattle.optimality.specs.Search.{found}
 use Rattle.optimality.specs.Segments.{Segment, cross, total-length, Differs, Proper, weigh, Weighed, then-v, by-divisor, side, outside, break-from, first-break, IsLine}
 use Rattle.optimality.specs.Machine.{Increments, increments, plain-increments, line, plain-line}
 use Rattle.optimality.specs.Fractions.{_≺_}
@@ -29,6 +30,10 @@ inside lo v hi h k = rw (lt-no h, lt-no k)
 
 same : (x y : ℤ) → x ≡ y → outside x y x ≡ false
 same x y e = inside x y x (omega int) (omega int)
+
+-- a minute that passes, and none that is found after it
+passes : {t : Bool} (i : ℕ) {rest : Option ℕ} → t ≡ false → rest ≡ none → found t i rest ≡ none
+passes i e h = rw (e, h)
 
 -- ---- levels that differ
 cross-z : (t n u m : ℤ) → n *ℤ u ⋖ m *ℤ t → u *ℤ n ⋖ t *ℤ m
@@ -144,8 +149,8 @@ module _ (L a b : ℤ) (ms : List Minute) where
         rw (next-minute j (omega (arith, P .upto)))
         (subst (λ n. break-from L b k (minute j ∷ drop n ms) g (value j) 1 l ≡ none) (sym q) (ends (minute j) (value j) k (then-is j ∙ ap value q)))
     along l ends (suc n) j k h e =
-        rw (next-minute j (omega (arith, P .upto)), then-is j, within (suc j) (omega arith) (omega arith))
-        (along l ends n (suc j) (suc k) (omega arith) (omega arith))
+        rw (next-minute j (omega (arith, P .upto)), then-is j)
+        (passes k (within (suc j) (omega arith) (omega arith)) (along l ends n (suc j) (suc k) (omega arith) (omega arith)))
 
     whole : (l : List Segment) → Ends l → (n k : ℕ) → i + n ≡ m → break-from L b k (drop i ms) g (by-divisor g (R d i -ℤ z)) n l ≡ none
     whole l ends zero k e = absurd (omega (arith, P .some))
