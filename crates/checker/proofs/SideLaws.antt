@@ -1,5 +1,5 @@
 -- What the code's tests of the two bounds of a dual say.
-use mathlib.Core.Path.{_≡_, refl, sym}
+use mathlib.Core.Path.{_≡_, refl}
 use mathlib.Core.Bool.{Bool, true, false, _||_, true≢false}
 use lib.IntN.{ℤ}
 use lib.Signed.{ltZ}
