@@ -9,14 +9,13 @@ use Prim.Native.Nat.{ℕ, zero, suc, _+_, _-_, _<_, _≤_}
 use lib.ListN.{length, getD, getElem?, take, drop, drop-of-length-le}
 use lib.Seq.{take-length, take-all, drop-length, drop-cons}
 use lib.IntN.{ℤ, pos}
-use Rattle.integers.specs.Order.{_⋖_, ⋖→⩽}
+use Rattle.integers.specs.Order.{_⋖_, ⋖→⩽, le-or-lt}
 use Rattle.integers.specs.Linear.{lt-yes, lt-no}
 use Rattle.integers.specs.Products.{tri}
 use Rattle.level.specs.Answer.{refused, given}
 use Rattle.level.specs.Order.{cross}
 use Rattle.level.specs.Plot.{NearestF64}
-use Rattle.level.proofs.Closest.{le-or-lt}
-use Rattle.level.proofs.Nearest.{nearest-f64}
+use Rattle.level.proofs.NearestF64.{nearest-f64}
 use Rattle.chart.specs.Drawable.{sum}
 use Rattle.checker.specs.Check.{shapeOf}
 use Rattle.series.proofs.Refusals.{never}

@@ -11,8 +11,8 @@ use Rattle.level.specs.Answer.{Answer, given, refuse-if}
 use Rattle.level.specs.Limits.{Valid}
 use Rattle.level.specs.Order.{cross}
 use Rattle.optimality.specs.Segments.{total-length, Differs, Proper}
-use Rattle.optimality.specs.Range.{Within}
-use Rattle.optimality.specs.Plain.{segments}
+use Rattle.optimality.specs.SampleRange.{Within}
+use Rattle.optimality.specs.PlainSeries.{segments}
 use Rattle.series.specs.Answer.{checked}
 use Rattle.series.specs.declared.Checked.{Checked}
 use Rattle.series.proofs.Refusals.{never, if-past, pass, if-alike, then, then-is}

@@ -10,7 +10,7 @@ use lib.Seq.{drop-cons}
 use lib.IntN.{ℤ, pos}
 use borrow.Author.Tests.{lt-ltb, le-ltb, eq-eqb, ne-eqb}
 use Rattle.level.specs.Plot.{nearestTo}
-use Rattle.level.proofs.Closest.{le-or-lt}
+use Rattle.integers.specs.Order.{le-or-lt}
 use Rattle.chart.specs.Drawable.{sum}
 use Rattle.chart.specs.Chart.{plain, step, segment-at, mark-at}
 use Rattle.chart.specs.Drawable.{nth}

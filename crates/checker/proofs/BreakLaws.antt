@@ -20,8 +20,9 @@ use Rattle.level.specs.Order.{cross, compareOf}
 use Rattle.level.specs.declared.Level.{Level}
 use Rattle.level.proofs.OrderLaws.{total}
 use Rattle.optimality.specs.Series.{Minute, plain, plain-minute}
-use Rattle.optimality.specs.Segments.{total-length, Segment, then-v, by-divisor, side, between, test, break-from, first-break}
-use Rattle.optimality.specs.Plain.{segments}
+use Rattle.optimality.specs.Search.{found}
+use Rattle.optimality.specs.Segments.{total-length, Segment, then-v, by-divisor, side, outside, break-from, first-break}
+use Rattle.optimality.specs.PlainSeries.{segments}
 use Rattle.series.specs.Limits.{bad-sample}
 use Rattle.series.specs.Answer.{on-success}
 use Rattle.checker.specs.Shape.{equal-levels, equal-from}
@@ -38,13 +39,13 @@ use Rattle.checker.proofs.WalkReach.{followed-passed}
 
 -- ---- the line from where the last minute of s is passed: its dual v is still to be tested
 unfoldable pub from-turn : (L : ℤ) → ℕ → List Minute → Segment → ℤ → List Segment → Option ℕ
-from-turn L i ms s v [] = test (between (pos 0) v (pos 0)) i none
-from-turn L i ms s v (t ∷ ss) = test (between (by-divisor s (side L s t)) v (by-divisor s (side L s t))) i (break-from L (pos 0) (suc i) ms t (by-divisor t (side L s t)) (t .len) ss)
+from-turn L i ms s v [] = found (outside (pos 0) v (pos 0)) i none
+from-turn L i ms s v (t ∷ ss) = found (outside (by-divisor s (side L s t)) v (by-divisor s (side L s t))) i (break-from L (pos 0) (suc i) ms t (by-divisor t (side L s t)) (t .len) ss)
 
 last-minute : (L : ℤ) (i : ℕ) (m : Minute) (ms : List Minute) (s : Segment) (v : ℤ) (ss : List Segment) →
     break-from L (pos 0) i (m ∷ ms) s v 1 ss ≡ from-turn L i ms s (then-v s v m) ss
 unfolding break-from from-turn
-last-minute L i m ms s v [] = ap (λ x. test (between x (then-v s v m) x) i none) (*ℤ-zero (pos (s .divisor)))
+last-minute L i m ms s v [] = ap (λ x. found (outside x (then-v s v m) x) i none) (*ℤ-zero (pos (s .divisor)))
 last-minute L i m ms s v (t ∷ ss) = refl
 
 module _ (L : ℕ) (ys : List ℤ) where
@@ -73,13 +74,11 @@ module _ (L : ℕ) (ys : List ℤ) where
       held-told : (d : Progress) (n : ℕ) → told t (alongOf L ys t (moved d) (suc n)) ss ≡ breaks (moved d) (suc n) (drop (suc (d .at)) ys) →
           told t (unless-stopped (heldOf L t (moved d)) (alongOf L ys t (heldOf L t (moved d)) (suc n))) ss ≡ breaks d (suc (suc n)) (getD ys (d .at) (pos 0) ∷ drop (suc (d .at)) ys)
       unfolding break-from plain
-      held-told d n i = go (between (sideOf L true (t .length)) (moved d .v) (sideOf L false (t .length)))
+      held-told d n i = go (outside (sideOf L true (t .length)) (moved d .v) (sideOf L false (t .length)))
         where
-          go : (b : Bool) →
-              told t (unless-stopped (cond b (moved d) (failed (moved d))) (alongOf L ys t (cond b (moved d) (failed (moved d))) (suc n))) ss ≡ test b
-              (suc (d .at)) (breaks (moved d) (suc n) (drop (suc (d .at)) ys))
-          go true = i
-          go false = told-stop t (failed (moved d)) _ ss (omega arith)
+          go : (b : Bool) → told t (unless-stopped (cond b (failed (moved d)) (moved d)) (alongOf L ys t (cond b (failed (moved d)) (moved d)) (suc n))) ss ≡ found b (suc (d .at)) (breaks (moved d) (suc n) (drop (suc (d .at)) ys))
+          go true = told-stop t (failed (moved d)) _ ss (omega arith)
+          go false = i
 
       along-told : (n : ℕ) (d : Progress) → d .at + suc n ≤ length ys → told t (alongOf L ys t d (suc n)) ss ≡ breaks d (suc n) (drop (d .at) ys)
       unfolding alongOf plain
@@ -111,14 +110,14 @@ module _ (L : ℕ) (ys : List ℤ) where
         turned-told : (rising : Bool) → side (pos L) (segment s) (segment t) ≡ cond rising (negℤ (pos L)) (pos L) →
             told t (proceedOf L ys t (turnedOf L rising d s t)) ss ≡ told s d (segment t ∷ ss)
         unfolding from-turn
-        turned-told rising q = rw (le-ltb 0 (d .stop) (omega arith), q) (go (between (sideOf L rising (s .length)) (d .v) (sideOf L rising (s .length))))
+        turned-told rising q = rw (le-ltb 0 (d .stop) (omega arith), q) (go (outside (sideOf L rising (s .length)) (d .v) (sideOf L rising (s .length))))
           where
             e : Progress
             e = record { at = d .at; v = sideOf L rising (t .length); stop = 0 }
 
-            go : (b : Bool) → told t (proceedOf L ys t (cond b e (failed d))) ss ≡ test b (d .at) (breaks t ss e (t .length) (drop (d .at) ys))
-            go true = ahead-told t ss e refl p room
-            go false = told-stop t (failed d) _ ss on
+            go : (b : Bool) → told t (proceedOf L ys t (cond b (failed d) e)) ss ≡ found b (d .at) (breaks t ss e (t .length) (drop (d .at) ys))
+            go true = told-stop t (failed d) _ ss on
+            go false = ahead-told t ss e refl p room
 
         -- by the order of the two levels
         followed-told : Valid s → Valid t → equal-levels (segment s) (segment t) ≡ false → told t (followedOf L ys d s t) ss ≡ told s d (segment t ∷ ss)

@@ -13,11 +13,11 @@ use Rattle.optimality.specs.Conditions.{FirstBreak}
 use Rattle.optimality.specs.Segments.{Segment, total-length, WellFormed, first-break, IsLine, Scale, numerators}
 use Rattle.optimality.specs.Machine.{plain-line}
 use Rattle.optimality.specs.Scales.{common}
-use Rattle.optimality.specs.Verdict.{some↔breaks}
-use Rattle.optimality.specs.Range.{Within, in-range}
-use Rattle.optimality.specs.Plain.{plain-positive, length-plain, segments, plain-formed, line-lengths, line-totals, formed-lists, same-lists}
-use Rattle.optimality.specs.Unique.{unique}
-use Rattle.optimality.specs.Correct.{plain-correct}
+use Rattle.optimality.specs.FirstBreakLaws.{some↔breaks}
+use Rattle.optimality.specs.SampleRange.{Within, in-range}
+use Rattle.optimality.specs.PlainSeries.{plain-positive, length-plain, segments, plain-formed, line-lengths, line-totals, formed-lists, same-lists}
+use Rattle.optimality.specs.Uniqueness.{unique}
+use Rattle.optimality.specs.Correctness.{plain-correct}
 use Rattle.level.specs.Answer.{Answer, refused, given, when-given, refuse-at}
 use Rattle.series.specs.Optimality.{Meets, Least}
 use Rattle.checker.specs.Check.{checkOf, PassesOptimal}

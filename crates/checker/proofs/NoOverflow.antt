@@ -15,7 +15,7 @@ use Rattle.level.specs.Answer.{Answer, refused, given}
 use Rattle.level.specs.Limits.{Valid, makeOf}
 use Rattle.level.specs.Order.{compareOf}
 use Rattle.level.specs.declared.Level.{Level}
-use Rattle.optimality.specs.Segments.{between}
+use Rattle.optimality.specs.Segments.{outside}
 use Rattle.series.specs.Limits.{bad-sample}
 use Rattle.series.specs.Answer.{on-success}
 use Rattle.checker.specs.Walk.{halted, failed, sideOf, openedOf, turnedOf, crossed, enteredOf, advancedOf, minuteOf, Ahead}
@@ -31,7 +31,7 @@ side-size : (L : ℕ) (rising : Bool) (n : ℕ) → natAbs (sideOf L rising n) �
 side-size L true n = let e = minus (pos n) (pos L) in rw e (omega (int, opp (pos (n * L)), size (negℤ (pos (n * L)))))
 side-size L false n = omega arith
 
-within-sides : (L n : ℕ) (v : ℤ) → between (sideOf L true n) v (sideOf L false n) ≡ true → natAbs v ≤ n * L
+within-sides : (L n : ℕ) (v : ℤ) → outside (sideOf L true n) v (sideOf L false n) ≡ false → natAbs v ≤ n * L
 within-sides L n v e =
     let h = within (sideOf L true n) v (sideOf L false n) e in
     let l : negℤ (pos (n * L)) ⩽ v = rw (minus (pos n) (pos L)) at (h .0) in
@@ -41,7 +41,7 @@ within-sides L n v e =
 -- ---- one minute
 module _ (L : ℕ) (ys : List ℤ) (t : Level) (d : Progress) (n : ℕ) (a : Ahead L ys t d (suc n)) where
   pub ahead-next : minuteOf L ys t d n .stop ≡ 0 → Ahead L ys t (minuteOf L ys t d n) n
-  ahead-next = go (bad-sample y) (eqb n 0) (between (sideOf L true (t .length)) (e .v) (sideOf L false (t .length))) refl refl
+  ahead-next = go (bad-sample y) (eqb n 0) (outside (sideOf L true (t .length)) (e .v) (sideOf L false (t .length))) refl refl
     where
       y : ℤ
       y = getD ys (d .at) (pos 0)
@@ -52,12 +52,12 @@ module _ (L : ℕ) (ys : List ℤ) (t : Level) (d : Progress) (n : ℕ) (a : Ahe
       ok : (0 < n → natAbs (e .v) ≤ t .length * L) → Ahead L ys t e n
       ok h = record { smoothing = a .smoothing; valid = a .valid; room = omega (arith, a .room); small = h }
 
-      go : (b z h : Bool) → eqb n 0 ≡ z → between (sideOf L true (t .length)) (e .v) (sideOf L false (t .length)) ≡ h →
-          (cond b (halted d) (cond z e (cond h e (failed e)))) .stop ≡ 0 → Ahead L ys t (cond b (halted d) (cond z e (cond h e (failed e)))) n
+      go : (b z h : Bool) → eqb n 0 ≡ z → outside (sideOf L true (t .length)) (e .v) (sideOf L false (t .length)) ≡ h →
+          (cond b (halted d) (cond z e (cond h (failed e) e))) .stop ≡ 0 → Ahead L ys t (cond b (halted d) (cond z e (cond h (failed e) e))) n
       go true z h p q s = absurd (omega arith)
       go false true h p q s = let k = eqb-true n 0 p in ok (λ l. absurd (omega arith))
-      go false false true p q s = ok (λ l. within-sides L (t .length) (e .v) q)
-      go false false false p q s = absurd (omega arith)
+      go false false true p q s = absurd (omega arith)
+      go false false false p q s = ok (λ l. within-sides L (t .length) (e .v) q)
 
 -- ---- into a segment
 module _ (L : ℕ) (d : Progress) (s t : Level) where
@@ -70,11 +70,11 @@ module _ (L : ℕ) (d : Progress) (s t : Level) where
   opens (given x) p h = (valid-made t x p, omega arith)
 
   turns : (rising : Bool) → (d .at ≡ 0 → ⊥) → Valid t → turnedOf L rising d s t .stop ≡ 0 → Enters (turnedOf L rising d s t)
-  turns rising k v = go (between (sideOf L rising (s .length)) (d .v) (sideOf L rising (s .length)))
+  turns rising k v = go (outside (sideOf L rising (s .length)) (d .v) (sideOf L rising (s .length)))
     where
-      go : (b : Bool) → let e = cond b (record { at = d .at; v = sideOf L rising (t .length); stop = 0 }) (failed d) in e .stop ≡ 0 → Enters e
-      go true h = (v, side-size L rising (t .length))
-      go false h = absurd (k h)
+      go : (b : Bool) → let e = cond b (failed d) (record { at = d .at; v = sideOf L rising (t .length); stop = 0 }) in e .stop ≡ 0 → Enters e
+      go true h = absurd (k h)
+      go false h = (v, side-size L rising (t .length))
 
   crosses : (a : Answer ℤ) → compareOf s t ≡ a → (d .at ≡ 0 → ⊥) → crossed L a d s t .stop ≡ 0 → Enters (crossed L a d s t)
   crosses (refused number place) p k h = absurd (omega arith)

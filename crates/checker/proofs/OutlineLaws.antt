@@ -18,8 +18,9 @@ use Rattle.level.specs.Order.{cross, compareOf}
 use Rattle.level.specs.declared.Level.{Level}
 use Rattle.level.proofs.OrderLaws.{total}
 use Rattle.optimality.specs.Segments.{total-length}
-use Rattle.optimality.specs.Plain.{segments}
-use Rattle.series.specs.Search.{found, first-from, place-of}
+use Rattle.optimality.specs.PlainSeries.{segments}
+use Rattle.optimality.specs.Search.{found}
+use Rattle.series.specs.Search.{first-from, place-of}
 use Rattle.checker.specs.Shape.{empty, beyond, equal-levels, equal-from, well-shaped}
 use Rattle.checker.specs.Outline.{paired, noted, added, is-7, is-zero, over, alike, begin, joined, outlineOf, verdictOf}
 use Rattle.checker.specs.Walk.{segment}

@@ -1,18 +1,17 @@
 -- Where the refusals of a line stand: a place is at most the number of minutes or of segments.
 use mathlib.Core.Path.{_≡_}
-use mathlib.Core.Bool.{Bool, true, false, not, _||_}
+use mathlib.Core.Bool.{not, _||_}
 use mathlib.Core.List.{List, [], _∷_}
-use mathlib.Core.Option.{Option}
 use native.Mathlib.Omega.{arith}
 use Prim.Native.Nat.{ℕ, zero, suc, _+_, _≤_}
 use lib.Dec.{eqb, ltb}
 use lib.ListN.{length}
 use lib.IntN.{ℤ, pos, negℤ}
 use Rattle.optimality.specs.Series.{Minute, plain}
-use Rattle.optimality.specs.Segments.{Segment, total-length, then-v, by-divisor, side, between, test, break-from, first-break}
-use Rattle.optimality.specs.Plain.{length-plain, segments}
+use Rattle.optimality.specs.Segments.{Segment, total-length, then-v, by-divisor, side, outside, break-from, first-break}
+use Rattle.optimality.specs.PlainSeries.{length-plain, segments}
 use Rattle.level.specs.Answer.{Answer}
-use Rattle.series.proofs.PlaceLaws.{Placed, unrefused, Upto, nothing, something, if-placed, at-placed, found-upto, first-upto, limits-placed}
+use Rattle.series.proofs.PlaceLaws.{Placed, unrefused, Upto, nothing, if-placed, at-placed, found-upto, first-upto, limits-placed}
 use Rattle.checker.specs.Shape.{empty, beyond, equal-levels, equal-from, line-shaped, well-shaped}
 use Rattle.checker.specs.Check.{meets-conditions, checkOf}
 
@@ -29,22 +28,18 @@ module _ {most : ℕ} where
   equal-upto i (s ∷ []) h = nothing
   equal-upto i (s ∷ t ∷ ss) h = found-upto (equal-levels s t) (suc i) (omega arith) (equal-upto (suc i) (t ∷ ss) (omega arith))
 
-  test-upto : (t : Bool) (i : ℕ) {rest : Option ℕ} → i ≤ most → Upto most rest → Upto most (test t i rest)
-  test-upto true i h r = r
-  test-upto false i h r = something h
-
   break-from-upto : (L b : ℤ) (i : ℕ) (ms : List Minute) (s : Segment) (v : ℤ) (n : ℕ) (ss : List Segment)
       → i + length ms ≤ suc most → Upto most (break-from L b i ms s v n ss)
   unfolding break-from
   break-from-upto L b i [] s v n ss h = nothing
   break-from-upto L b i (m ∷ ms) s v zero ss h = nothing
-  break-from-upto L b i (m ∷ ms) s v (suc zero) [] h = test-upto (between (by-divisor s b) (then-v s v m) (by-divisor s b)) i (omega arith) nothing
+  break-from-upto L b i (m ∷ ms) s v (suc zero) [] h = found-upto (outside (by-divisor s b) (then-v s v m) (by-divisor s b)) i (omega arith) nothing
   break-from-upto L b i (m ∷ ms) s v (suc zero) (t ∷ ss) h =
       let u = side L s t in
-      test-upto (between (by-divisor s u) (then-v s v m) (by-divisor s u)) i (omega arith)
+      found-upto (outside (by-divisor s u) (then-v s v m) (by-divisor s u)) i (omega arith)
       (break-from-upto L b (suc i) ms t (by-divisor t u) (t .len) ss (omega arith))
   break-from-upto L b i (m ∷ ms) s v (suc (suc n)) ss h =
-      test-upto (between (by-divisor s (negℤ L)) (then-v s v m) (by-divisor s L)) i (omega arith)
+      found-upto (outside (by-divisor s (negℤ L)) (then-v s v m) (by-divisor s L)) i (omega arith)
       (break-from-upto L b (suc i) ms s (then-v s v m) (suc n) ss (omega arith))
 
   break-upto : (L a b : ℤ) (ms : List Minute) (ss : List Segment) → length ms ≤ most → Upto most (first-break L a b ms ss)

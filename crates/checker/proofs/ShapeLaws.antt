@@ -10,8 +10,8 @@ use lib.ListN.{length}
 use lib.IntN.{ℤ, natAbs}
 use borrow.Author.Tests.{ltb-false, eqb-true, eqb-false, le-ltb, eq-eqb, ne-eqb, not-false}
 use Rattle.optimality.specs.Segments.{Segment, total-length, Differs, Proper}
-use Rattle.optimality.specs.Range.{Within}
-use Rattle.optimality.specs.Plain.{segments}
+use Rattle.optimality.specs.SampleRange.{Within}
+use Rattle.optimality.specs.PlainSeries.{segments}
 use Rattle.level.specs.Answer.{Answer, refused}
 use Rattle.series.specs.Search.{first-from, first}
 use Rattle.series.proofs.SearchLaws.{none-found}

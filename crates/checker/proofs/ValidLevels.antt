@@ -14,7 +14,7 @@ use Rattle.level.specs.Limits.{Valid, bad-length, bad-total, makeOf}
 use Rattle.level.specs.Order.{cross, signOf, compareOf}
 use Rattle.level.specs.declared.Level.{Level}
 use Rattle.level.proofs.OrderLaws.{total}
-use Rattle.level.proofs.Valid.{valid}
+use Rattle.level.proofs.LimitsLaws.{valid}
 use Rattle.series.proofs.Refusals.{never}
 
 pub valid-made : (t a : Level) → makeOf (t .length) (t .total) ≡ given a → Valid t

@@ -11,7 +11,7 @@ use borrow.Author.Tests.{ltb-false}
 use Rattle.level.specs.Answer.{Answer, refused, given, refuse-if, refuse-at}
 use Rattle.optimality.specs.Series.{plain}
 use Rattle.optimality.specs.Segments.{first-break}
-use Rattle.optimality.specs.Plain.{segments}
+use Rattle.optimality.specs.PlainSeries.{segments}
 use Rattle.series.specs.Search.{first}
 use Rattle.series.specs.Limits.{bad-sample, in-limits}
 use Rattle.checker.specs.Shape.{well-shaped}

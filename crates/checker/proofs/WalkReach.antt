@@ -13,8 +13,9 @@ use Rattle.level.specs.Answer.{Answer, refused, given}
 use Rattle.level.specs.Limits.{makeOf}
 use Rattle.level.specs.Order.{compareOf}
 use Rattle.level.specs.declared.Level.{Level}
-use Rattle.optimality.specs.Segments.{between}
-use Rattle.series.specs.Search.{found, first-from}
+use Rattle.optimality.specs.Segments.{outside}
+use Rattle.optimality.specs.Search.{found}
+use Rattle.series.specs.Search.{first-from}
 use Rattle.series.specs.Limits.{bad-sample}
 use Rattle.series.specs.Answer.{on-success}
 use Rattle.checker.specs.Walk.{halted, failed, sideOf, openedOf, turnedOf, crossed, enteredOf, advancedOf, minuteOf, unless-stopped, alongOf, proceedOf, followedOf, stepOf, walkOf}
@@ -33,7 +34,7 @@ module _ (L : ℕ) (ys : List ℤ) where
     pub same : ahead e ≡ ahead d
 
   minute-passed : (t : Level) (d : Progress) (n : ℕ) → d .at < length ys → Passed d 1 (minuteOf L ys t d n)
-  minute-passed t d n h = go (bad-sample y) (eqb n 0) (between (sideOf L true (t .length)) (e .v) (sideOf L false (t .length))) refl
+  minute-passed t d n h = go (bad-sample y) (eqb n 0) (outside (sideOf L true (t .length)) (e .v) (sideOf L false (t .length))) refl
     where
       y : ℤ
       y = getD ys (d .at) (pos 0)
@@ -44,7 +45,7 @@ module _ (L : ℕ) (ys : List ℤ) where
       on : bad-sample y ≡ false → ahead e ≡ ahead d
       on p = sym (next bad-sample ys (d .at) (pos 0) h ∙ ap (λ b. found b (suc (d .at)) (ahead e)) p)
 
-      go : (b z k : Bool) → bad-sample y ≡ b → Passed d 1 (cond b (halted d) (cond z e (cond k e (failed e))))
+      go : (b z k : Bool) → bad-sample y ≡ b → Passed d 1 (cond b (halted d) (cond z e (cond k (failed e) e)))
       go true z k p = record { far = λ s. absurd (omega arith); same = refl }
       go false true k p = record { far = λ s. omega arith; same = on p }
       go false false true p = record { far = λ s. omega arith; same = on p }
@@ -68,9 +69,9 @@ module _ (L : ℕ) (ys : List ℤ) where
 
   -- ---- into a segment no minute is passed
   turned-at : (rising : Bool) (d : Progress) (s t : Level) → turnedOf L rising d s t .at ≡ d .at
-  turned-at rising d s t = go (between (sideOf L rising (s .length)) (d .v) (sideOf L rising (s .length)))
+  turned-at rising d s t = go (outside (sideOf L rising (s .length)) (d .v) (sideOf L rising (s .length)))
     where
-      go : (b : Bool) → (cond b (record { at = d .at; v = sideOf L rising (t .length); stop = 0 }) (failed d)) .at ≡ d .at
+      go : (b : Bool) → (cond b (failed d) (record { at = d .at; v = sideOf L rising (t .length); stop = 0 })) .at ≡ d .at
       go true = refl
       go false = refl
 

@@ -8,7 +8,7 @@ use lib.ListN.{length}
 use lib.IntN.{ℤ, pos}
 use Rattle.optimality.specs.Series.{Minute, plain, Limited}
 use Rattle.optimality.specs.Segments.{Segment, first-break}
-use Rattle.optimality.specs.Plain.{segments}
+use Rattle.optimality.specs.PlainSeries.{segments}
 use Rattle.level.specs.Answer.{Answer, given, refuse-if, refuse-at}
 use Rattle.series.specs.Limits.{in-limits}
 use Rattle.series.specs.Optimality.{Meets}

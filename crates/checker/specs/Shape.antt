@@ -8,9 +8,10 @@ use lib.ListN.{length}
 use lib.IntN.{ℤ, natAbs}
 use lib.Signed.{ltZ}
 use Rattle.optimality.specs.Segments.{Segment, cross, total-length}
-use Rattle.optimality.specs.Plain.{segments}
+use Rattle.optimality.specs.PlainSeries.{segments}
 use Rattle.level.specs.Answer.{Answer, refuse-if, refuse-at}
-use Rattle.series.specs.Search.{found, first}
+use Rattle.optimality.specs.Search.{found}
+use Rattle.series.specs.Search.{first}
 
 abbrev pub empty : Segment → Bool
 empty s = eqb (s .len) 0

@@ -7,7 +7,8 @@ use lib.Dec.{eqb, ltb}
 use lib.ListN.{length, getD, drop}
 use lib.IntN.{ℤ, pos, negsuc, negℤ, natAbs, _*ℤ_}
 use Rattle.optimality.specs.Series.{plain-minute}
-use Rattle.optimality.specs.Segments.{Segment, then-v, between, test}
+use Rattle.optimality.specs.Search.{found}
+use Rattle.optimality.specs.Segments.{Segment, then-v, outside}
 use Rattle.level.specs.Answer.{Answer, refused, given, refuse-if, refuse-at}
 use Rattle.level.specs.Limits.{Valid, makeOf}
 use Rattle.level.specs.Order.{compareOf}
@@ -37,8 +38,8 @@ openedOf d t = on-success (makeOf (t .length) (t .total)) (record { at = d .at; 
 
 abbrev pub turnedOf : ℕ → Bool → Progress → Level → Level → Progress
 turnedOf L rising d s t =
-    cond (between (sideOf L rising (s .length)) (d .v) (sideOf L rising (s .length)))
-    (record { at = d .at; v = sideOf L rising (t .length); stop = 0 }) (failed d)
+    cond (outside (sideOf L rising (s .length)) (d .v) (sideOf L rising (s .length))) (failed d)
+    (record { at = d .at; v = sideOf L rising (t .length); stop = 0 })
 
 abbrev pub crossed : ℕ → Answer ℤ → Progress → Level → Level → Progress
 crossed L (refused number place) d s t = halted d
@@ -54,7 +55,7 @@ abbrev pub advancedOf : Level → Progress → ℤ → Progress
 advancedOf t d y = record { at = suc (d .at); v = then-v (segment t) (d .v) (plain-minute y); stop = 0 }
 
 abbrev pub heldOf : ℕ → Level → Progress → Progress
-heldOf L t d = cond (between (sideOf L true (t .length)) (d .v) (sideOf L false (t .length))) d (failed d)
+heldOf L t d = cond (outside (sideOf L true (t .length)) (d .v) (sideOf L false (t .length))) (failed d) d
 
 -- of the last minute the dual is tested later
 abbrev pub passedOf : ℕ → Level → Progress → ℕ → Progress
@@ -103,7 +104,7 @@ walkOf L ys w i (n ∷ ns) (t ∷ ts) = walkOf L ys (stepOf L ys w (record { len
 
 -- the first minute that breaks (6) or (7), where the line ends with d
 abbrev pub broken : Progress → Option ℕ
-broken d = cond (ltb 0 (d .stop)) (some (d .stop)) (test (between (pos 0) (d .v) (pos 0)) (d .at) none)
+broken d = cond (ltb 0 (d .stop)) (some (d .stop)) (found (outside (pos 0) (d .v) (pos 0)) (d .at) none)
 
 abbrev pub settledOf : Progress → Answer (Unit {0})
 settledOf d = refuse-at (broken d) 9 (given tt)

@@ -1,7 +1,7 @@
 // The shape of a line that somebody else drew, and the check of it against a series.
 
 ghost use mathlib.Core.Path.{_≡_};
-ghost use Rattle.optimality.specs.Plain.{segments};
+ghost use Rattle.optimality.specs.PlainSeries.{segments};
 ghost use Rattle.level.specs.Answer.{when-given};
 ghost use Rattle.series.specs.Answer.{checked};
 ghost use Rattle.series.specs.Optimality.{Least};

@@ -12,7 +12,7 @@ use lib.Dec.{ltb}
 use lib.ListN.{length, take}
 use lib.IntN.{ℤ}
 use Rattle.optimality.specs.Segments as Segments
-use Rattle.optimality.specs.Plain.{segments, length-plain}
+use Rattle.optimality.specs.PlainSeries.{segments, length-plain}
 use Rattle.level.specs.Answer.{Answer, refused, given, refuse-if}
 use Rattle.series.specs.Answer.{passing}
 use Rattle.series.proofs.Refusals.{passed, stopped}

@@ -7,7 +7,7 @@ use lib.ListN.{length, take, drop, length-append, length-drop}
 use lib.Seq.{length-take-le}
 use lib.IntN.{ℤ}
 use Rattle.optimality.specs.Segments.{Segment}
-use Rattle.optimality.specs.Plain.{line-lengths, line-totals}
+use Rattle.optimality.specs.PlainSeries.{line-lengths, line-totals}
 use Rattle.codec.specs.Place.{overwrite}
 use Rattle.level.specs.Answer.{Answer, refused, given}
 use Rattle.io.specs.Counts.{Counts}

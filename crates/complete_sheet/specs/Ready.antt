@@ -5,7 +5,7 @@ use Prim.Native.Nat.{ℕ, _≤_, _<_}
 use lib.ListN.{length, take}
 use lib.IntN.{ℤ, pos}
 use Rattle.optimality.specs.Series.{Limited}
-use Rattle.optimality.specs.Plain.{line-lengths, line-totals}
+use Rattle.optimality.specs.PlainSeries.{line-lengths, line-totals}
 use Rattle.optimality.specs.Machine.{plain-line}
 
 pub record Ready (ys : List ℤ) (L m : ℕ) (ns : List ℕ) (ts : List ℤ) : Type 0 where

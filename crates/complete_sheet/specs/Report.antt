@@ -5,7 +5,7 @@ use Prim.Native.Nat.{ℕ, _+_}
 use lib.Dec.{ltb}
 use lib.ListN.{length, replicate}
 use lib.IntN.{ℤ, pos}
-use Rattle.optimality.specs.Plain.{line-lengths, line-totals}
+use Rattle.optimality.specs.PlainSeries.{line-lengths, line-totals}
 use Rattle.optimality.specs.Machine.{plain-line}
 use Rattle.level.specs.Answer.{Answer, refused, given}
 use Rattle.text.specs.Decimal.{decimal, signedDecimal}

@@ -10,8 +10,8 @@ use lib.Seq.{sets}
 use lib.IntN.{ℤ, pos}
 use Rattle.optimality.specs.Segments.{Segment}
 use Rattle.optimality.specs.Machine.{begin, plain-line}
-use Rattle.optimality.specs.Plain.{line-lengths, line-totals}
-use Rattle.optimality.specs.Sound.{lines, line-lines}
+use Rattle.optimality.specs.PlainSeries.{line-lengths, line-totals}
+use Rattle.optimality.specs.MachineLaws.{lines, line-lines}
 use Rattle.series.specs.Answer.{refill}
 use Rattle.optimality.specs.Series.{Limited}
 use Rattle.denoise.specs.Run.{Good, Emits, Stops, dataOf, stateOf, as-segment, rest}

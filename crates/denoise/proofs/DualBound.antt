@@ -10,10 +10,11 @@ use Rattle.integers.specs.Order.{abs-neg}
 use Rattle.integers.specs.Ring.{ring, reify}
 use Rattle.integers.specs.Sums.{sumZ, sum-take}
 use Rattle.optimality.specs.Segments.{Segment}
-use Rattle.optimality.specs.Machine.{Increments, Fraction, plain-line}
+use Rattle.optimality.specs.Fractions.{Fraction}
+use Rattle.optimality.specs.Machine.{Increments, plain-line}
 use Rattle.optimality.specs.Tube.{Side, floor, roof, prefix, R, edge, edge-is}
-use Rattle.optimality.specs.Path.{Path, Turns}
-use Rattle.optimality.specs.Sound.{line-path}
+use Rattle.optimality.specs.TubePath.{Path, Turns}
+use Rattle.optimality.specs.MachineLaws.{line-path}
 use Rattle.optimality.specs.Series.{Limited}
 use Rattle.denoise.specs.Run.{dataOf}
 use Rattle.denoise.proofs.RunBounds.{right}

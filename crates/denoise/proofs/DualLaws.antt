@@ -12,7 +12,7 @@ use Rattle.optimality.specs.Series.{Minute, plain, weighted}
 use Rattle.optimality.specs.Conditions.{after, dual}
 use Rattle.optimality.specs.Segments.{Segment, total-length, weigh, Weighed, WellFormed, Scale, numerators, by-divisor, then-v}
 use Rattle.optimality.specs.Scales.{quotient}
-use Rattle.optimality.specs.Plain.{length-plain}
+use Rattle.optimality.specs.PlainSeries.{length-plain}
 use Rattle.optimality.specs.Machine.{plain-line}
 use Rattle.optimality.specs.Theorems as Theorems
 use Rattle.level.specs.Answer.{given}

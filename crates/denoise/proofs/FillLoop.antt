@@ -11,7 +11,7 @@ use Rattle.integers.specs.Ring.{ring, reify}
 use Rattle.integers.specs.Linear.{int, size}
 use Rattle.integers.specs.Sums.{sumZ}
 use Rattle.integers.specs.Bounds.{Upto, mul-both}
-use Rattle.optimality.specs.Limits.{Slight}
+use Rattle.optimality.specs.SmallNumbers.{SmallBound}
 use Rattle.optimality.specs.Series.{plain, plain-minute}
 use Rattle.optimality.specs.Segments.{then-v}
 use Rattle.denoise.specs.Dual.{duals-inside}
@@ -50,7 +50,7 @@ module _ (ys : List ℤ) (p : Span) (end : ℕ) (start : Dual) (out₀ : List �
     steady h = record { v = record { upto = omega (arith, K .v-small, K .upto) }; u = record { upto = omega (arith, K .u-small, K .upto) } }
 
     -- one minute more
-    module _ (h : d .k < end) (e : end ≤ length ys) (y-small : Upto 16777216 (getD ys (d .k) (pos 0))) (above : pos 0 ⋖ p .n) (small : Slight (p .total) (p .n)) where
+    module _ (h : d .k < end) (e : end ≤ length ys) (y-small : Upto 16777216 (getD ys (d .k) (pos 0))) (above : pos 0 ⋖ p .n) (small : SmallBound (p .total) (p .n)) where
       abbrev y : ℤ
       y = getD ys (d .k) (pos 0)
 

@@ -11,7 +11,7 @@ use lib.IntN.{ℤ, pos}
 use Rattle.integers.specs.Order.{0⩽pos}
 use Rattle.optimality.specs.Series.{plain, Limited}
 use Rattle.optimality.specs.Segments.{Segment, IsLine}
-use Rattle.optimality.specs.Plain.{segments, line-lengths, line-totals, formed-lists, unique-lists}
+use Rattle.optimality.specs.PlainSeries.{segments, line-lengths, line-totals, formed-lists, unique-lists}
 use Rattle.optimality.specs.Machine.{plain-line}
 use Rattle.optimality.specs.Theorems as Theorems
 use Rattle.level.specs.Answer.{Answer, refused, given, when-given}

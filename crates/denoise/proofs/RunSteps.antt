@@ -10,9 +10,9 @@ use Rattle.integers.specs.Order.{_⋖_}
 use Rattle.integers.specs.Bounds.{Upto}
 use Rattle.optimality.specs.Segments.{Segment}
 use Rattle.optimality.specs.Machine.{Increments, State, Out, on, emit, stop, follow, begin, step, keep-min, keep-max}
-use Rattle.optimality.specs.Tests.{test3, test4, step-inside, step-final}
-use Rattle.optimality.specs.Sound.{Sound, Facts, left, After, facts, begin-sound, step-after, lines, lines-step}
-use Rattle.optimality.specs.Limits.{SmallAfter, Slight, Small, begin-small, step-small}
+use Rattle.optimality.specs.StepTests.{test3, test4, step-inside, step-final}
+use Rattle.optimality.specs.MachineLaws.{Sound, Facts, left, After, facts, begin-sound, step-after, lines, lines-step}
+use Rattle.optimality.specs.SmallNumbers.{SmallAfter, SmallBound, Small, begin-small, step-small}
 use Rattle.optimality.specs.Series.{Limited}
 use Rattle.denoise.specs.Run.{Good, Turns, Emits, Stops, dataOf, rest, stateOf, as-segment, cutOf, moreOf, belowOf}
 use Rattle.denoise.specs.declared.steps.Run.{Run}
@@ -80,7 +80,7 @@ module _ (ys : List ℤ) (smoothing : ℕ) (W : Limited ys smoothing) where
     told : (o : Out) → step δ (stateOf r) ≡ o → lines δ (stateOf r) ≡ follow (lines δ) o
     told o e = lines-step δ (right ys smoothing W) (G .sound) ∙ ap (follow (lines δ)) e
 
-    pub emits : {q : Run} {t : State} (p : Span) → pos 0 ⋖ p .n → Slight (p .total) (p .n) → step δ (stateOf r) ≡ emit (as-segment p) t → stateOf q ≡ t →
+    pub emits : {q : Run} {t : State} (p : Span) → pos 0 ⋖ p .n → SmallBound (p .total) (p .n) → step δ (stateOf r) ≡ emit (as-segment p) t → stateOf q ≡ t →
         Emits ys smoothing r p q
     emits {q} p a b f g =
         let o = emit (as-segment p) (stateOf q) in
@@ -88,14 +88,14 @@ module _ (ys : List ℤ) (smoothing : ℕ) (W : Limited ys smoothing) where
         let A = after o e in
         record { good = record { sound = A .sound; small = small-after o e }; further = A .further; short = A .short; less = A .less; long = A .long; above = a; small = b; rest = told o e }
 
-    pub turns : (p : Span) (m : Origin) → pos 0 ⋖ p .n → Slight (p .total) (p .n) → natAbs (m .u) ≤ smoothing →
+    pub turns : (p : Span) (m : Origin) → pos 0 ⋖ p .n → SmallBound (p .total) (p .n) → natAbs (m .u) ≤ smoothing →
         step δ (stateOf r) ≡ emit (as-segment p) (begin δ (m .i) (m .u)) → Turns ys smoothing r p m
     turns p m a b h e =
         let o = emit (as-segment p) (begin δ (m .i) (m .u)) in
         let A = after o e in
         record { further = A .further; short = A .short; dual = h; less = A .less; long = A .long; above = a; small = b; rest = told o e }
 
-    pub stops : (p : Span) → pos 0 ⋖ p .n → Slight (p .total) (p .n) → step δ (stateOf r) ≡ stop (as-segment p) → Stops ys smoothing r p
+    pub stops : (p : Span) → pos 0 ⋖ p .n → SmallBound (p .total) (p .n) → step δ (stateOf r) ≡ stop (as-segment p) → Stops ys smoothing r p
     stops p a b e =
         let o = stop (as-segment p) in
         record { short = omega (arith, known .from, known .upto); long = after o e; above = a; small = b; rest = told o e }

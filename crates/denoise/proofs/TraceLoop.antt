@@ -9,9 +9,9 @@ use lib.IntN.{ℤ, pos, natAbs, _+ℤ_, _-ℤ_}
 use Rattle.integers.specs.Order.{_⋖_}
 use Rattle.integers.specs.Sums.{sumZ}
 use Rattle.optimality.specs.Segments.{Segment, by-divisor, then-v}
-use Rattle.optimality.specs.Limits.{Slight, sample-small}
+use Rattle.optimality.specs.SmallNumbers.{SmallBound, sample-small}
 use Rattle.optimality.specs.Series.{Minute, plain, weighted, Limited}
-use Rattle.optimality.specs.Plain.{length-plain, plain-weighted, take-plain, drop-plain}
+use Rattle.optimality.specs.PlainSeries.{length-plain, plain-weighted, take-plain, drop-plain}
 use Rattle.optimality.specs.Machine.{begin, plain-line}
 use Rattle.series.specs.Answer.{refill}
 use Rattle.denoise.specs.Dual.{duals-inside, duals}
@@ -96,7 +96,7 @@ module _ (ys : List ℤ) (smoothing : ℕ) (out₀ : List ℤ) where
           ∙ rw (filled-long h, drop-drop)
 
     -- p may be filled in
-    fills : {l : List Segment} → rest ys smoothing r ≡ as-segment p ∷ l → m .i + p .len ≤ length ys → pos 0 ⋖ p .n → Slight (p .total) (p .n) → Fills ys m p
+    fills : {l : List Segment} → rest ys smoothing r ≡ as-segment p ∷ l → m .i + p .len ≤ length ys → pos 0 ⋖ p .n → SmallBound (p .total) (p .n) → Fills ys m p
     fills e h a b = record { minutes = W .few; samples = sample-small 16777216 ys (W .samples); upto = h; dual = record { upto = omega (arith, before e, W .smooth) }; above = a; small = b }
 
     pub turn-fills : {k : Origin} → Turns ys smoothing r p k → Fills ys m p

@@ -10,10 +10,10 @@ use Rattle.integers.specs.Order.{_⋖_}
 use Rattle.integers.specs.Bounds.{Upto}
 use Rattle.optimality.specs.Segments.{Segment}
 use Rattle.optimality.specs.Machine.{Increments, plain-increments, State, segment, begin, more}
-use Rattle.optimality.specs.Tests.{U′, n′, keeps-min, keeps-max}
-use Rattle.optimality.specs.Sound.{Sound, left, lines}
-use Rattle.optimality.specs.Limits.{Slight}
-use Rattle.optimality.specs.Limits as Limits
+use Rattle.optimality.specs.StepTests.{U′, n′, keeps-min, keeps-max}
+use Rattle.optimality.specs.MachineLaws.{Sound, left, lines}
+use Rattle.optimality.specs.SmallNumbers.{SmallBound}
+use Rattle.optimality.specs.SmallNumbers as SmallNumbers
 use Rattle.denoise.specs.declared.steps.Slope.{Slope}
 use Rattle.denoise.specs.declared.steps.Tube.{Tube}
 use Rattle.denoise.specs.declared.steps.Run.{Run}
@@ -25,7 +25,7 @@ use Rattle.denoise.specs.declared.steps.Next.the-variants as Next
 -- ---- slopes
 -- as a bound of the level is
 abbrev pub Small : Slope → Type 0
-Small s = Slight (s .total) (s .n)
+Small s = SmallBound (s .total) (s .n)
 
 -- as the middle of the tube is
 pub record SmallMiddle (s : Slope) : Type 0 where
@@ -83,7 +83,7 @@ module _ (ys : List ℤ) (smoothing : ℕ) where
 
   pub record Good (r : Run) : Type 0 where
     pub sound : Sound dataOf (stateOf r)
-    pub small : Limits.Small (pos smoothing) ys (stateOf r)
+    pub small : SmallNumbers.Small (pos smoothing) ys (stateOf r)
 
   -- the segments from a run on
   abbrev pub rest : Run → List Segment
@@ -97,7 +97,7 @@ module _ (ys : List ℤ) (smoothing : ℕ) where
     pub less : left dataOf (begin dataOf (m .i) (m .u)) < left dataOf (stateOf from)
     pub long : p .len ≡ m .i - from .i
     pub above : pos 0 ⋖ p .n
-    pub small : Slight (p .total) (p .n)
+    pub small : SmallBound (p .total) (p .n)
     pub rest : rest from ≡ as-segment p ∷ lines dataOf (begin dataOf (m .i) (m .u))
 
   -- and the one after it is under construction in r
@@ -108,14 +108,14 @@ module _ (ys : List ℤ) (smoothing : ℕ) where
     pub less : left dataOf (stateOf r) < left dataOf (stateOf from)
     pub long : p .len ≡ r .i - from .i
     pub above : pos 0 ⋖ p .n
-    pub small : Slight (p .total) (p .n)
+    pub small : SmallBound (p .total) (p .n)
     pub rest : rest from ≡ as-segment p ∷ rest r
 
   pub record Stops (from : Run) (p : Span) : Type 0 where
     pub short : from .i < length ys
     pub long : p .len ≡ length ys - from .i
     pub above : pos 0 ⋖ p .n
-    pub small : Slight (p .total) (p .n)
+    pub small : SmallBound (p .total) (p .n)
     pub rest : rest from ≡ as-segment p ∷ []
 
   abbrev pub Advanced : Run → Next → Type 0

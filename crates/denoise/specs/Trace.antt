@@ -6,7 +6,7 @@ use lib.IntN.{ℤ, pos, _+ℤ_, _*ℤ_, _-ℤ_}
 use Rattle.integers.specs.Order.{_⋖_}
 use Rattle.integers.specs.Sums.{sumZ}
 use Rattle.integers.specs.Bounds.{Upto}
-use Rattle.optimality.specs.Limits.{Slight}
+use Rattle.optimality.specs.SmallNumbers.{SmallBound}
 use Rattle.optimality.specs.Series.{plain}
 use Rattle.optimality.specs.Segments.{by-divisor}
 use Rattle.denoise.specs.Dual.{duals-inside}
@@ -31,7 +31,7 @@ module _ (ys : List ℤ) (m : Origin) (p : Span) where
     pub upto : m .i + p .len ≤ length ys
     pub dual : Upto 1099511627776 (m .u)
     pub above : pos 0 ⋖ p .n
-    pub small : Slight (p .total) (p .n)
+    pub small : SmallBound (p .total) (p .n)
 
   -- its minutes
   abbrev pub minutes : List ℤ

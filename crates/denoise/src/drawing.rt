@@ -5,7 +5,7 @@ ghost use Prim.Native.Nat.{_≤_, _<_};
 ghost use lib.ListN.{length, set};
 ghost use lib.IntN.{pos};
 ghost use Rattle.optimality.specs.Machine.{plain-line};
-ghost use Rattle.optimality.specs.Plain.{line-lengths, line-totals};
+ghost use Rattle.optimality.specs.PlainSeries.{line-lengths, line-totals};
 ghost use Rattle.series.specs.Answer.{refill};
 ghost use Rattle.optimality.specs.Series.{Limited};
 use super::steps;

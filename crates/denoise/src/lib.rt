@@ -2,7 +2,7 @@
 
 ghost use mathlib.Core.Path.{_≡_};
 ghost use lib.ListN.{take};
-ghost use Rattle.optimality.specs.Plain.{segments};
+ghost use Rattle.optimality.specs.PlainSeries.{segments};
 ghost use Rattle.level.specs.Answer.{when-given};
 ghost use Rattle.series.specs.Answer.{filled};
 ghost use Rattle.series.specs.Optimality.{Meets, Only, Least};

@@ -7,7 +7,7 @@ ghost use lib.ListN.{length, getD};
 ghost use lib.IntN.{pos};
 ghost use Rattle.integers.specs.Bounds.{Upto};
 ghost use Rattle.optimality.specs.Machine.{begin};
-ghost use Rattle.optimality.specs.Tests.{test3, test4};
+ghost use Rattle.optimality.specs.StepTests.{test3, test4};
 ghost use Rattle.optimality.specs.Series.{Limited};
 ghost use Rattle.denoise.specs.Run.{Small, SmallMiddle, belowOf, tubeOf, cutOf, fallOf, riseOf, stateOf, dataOf, moreOf, Good, Turns, Advanced};
 

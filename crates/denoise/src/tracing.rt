@@ -6,7 +6,7 @@ ghost use lib.ListN.{length, getD};
 ghost use lib.Seq.{sets};
 ghost use lib.IntN.{pos};
 ghost use Rattle.integers.specs.Bounds.{Upto};
-ghost use Rattle.optimality.specs.Limits.{Slight};
+ghost use Rattle.optimality.specs.SmallNumbers.{SmallBound};
 ghost use Rattle.optimality.specs.Machine.{plain-line};
 ghost use Rattle.series.specs.Answer.{refill};
 ghost use Rattle.denoise.specs.Dual.{duals};
@@ -94,7 +94,7 @@ fn fill(samples: &[i32], m: Origin, p: Span, out: &mut [i64]) -> Origin
 
 // One minute more: u[k] = u[k - 1] + y[k] - x[k], times n.
 fn minute(samples: &[i32], p: Span, d: Dual) -> Dual
-    requires { ⌜ Slight (p .total) (p .n) ⌝ }
+    requires { ⌜ SmallBound (p .total) (p .n) ⌝ }
     requires { ⌜ SmallDual d ⌝ }
     requires { ⌜ d .k < length (now samples) ⌝ }
     requires { ⌜ Upto 16777216 (getD (now samples) (d .k) (pos 0)) ⌝ }

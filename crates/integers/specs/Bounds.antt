@@ -56,7 +56,9 @@ cl-add x y h k = record {
   val = h .val +ℤ k .val;
   bound = h .bound + k .bound;
   good = h .good && k .good;
-  ok = λ t. let u = &&-both (h .good) (k .good) t in (ap₂ _+ℤ_ (h .ok (u .0) .0) (k .ok (u .1) .0), omega (arith, abs-+ (h .val) (k .val), h .ok (u .0) .1, k .ok (u .1) .1));
+  ok =
+      λ t. let u = &&-both (h .good) (k .good) t in
+      (ap₂ _+ℤ_ (h .ok (u .0) .0) (k .ok (u .1) .0), omega (arith, abs-+ (h .val) (k .val), h .ok (u .0) .1, k .ok (u .1) .1));
 }
 
 abbrev pub cl-mul : (x y : ℤ) → Clean x → Clean y → Clean (x *ℤ y)
@@ -64,7 +66,11 @@ cl-mul x y h k = record {
   val = h .val *ℤ k .val;
   bound = h .bound * k .bound;
   good = h .good && k .good;
-  ok = λ t. let u = &&-both (h .good) (k .good) t in (ap₂ _*ℤ_ (h .ok (u .0) .0) (k .ok (u .1) .0), omega (arith, abs-* (h .val) (k .val), mul-both (natAbs (h .val)) (h .bound) (natAbs (k .val)) (k .bound) (h .ok (u .0) .1) (k .ok (u .1) .1)));
+  ok =
+      λ t. let u = &&-both (h .good) (k .good) t in (
+        ap₂ _*ℤ_ (h .ok (u .0) .0) (k .ok (u .1) .0),
+        omega (arith, abs-* (h .val) (k .val), mul-both (natAbs (h .val)) (h .bound) (natAbs (k .val)) (k .bound) (h .ok (u .0) .1) (k .ok (u .1) .1)),
+      );
 }
 
 pub fits-lt : (w : Width) (z : ℤ) (b : ℕ) → natAbs z ≤ b → T (ltb b (2 ^ hbits w)) → SFits w z
@@ -78,7 +84,9 @@ cl-read w x h = record {
   val = h .val;
   bound = h .bound;
   good = h .good && ltb (h .bound) (2 ^ hbits w);
-  ok = λ t. let u = &&-both (h .good) (ltb (h .bound) (2 ^ hbits w)) t in (read-ok w x (h .val) (h .bound) (h .ok (u .0) .0) (h .ok (u .0) .1) (u .1), h .ok (u .0) .1);
+  ok =
+      λ t. let u = &&-both (h .good) (ltb (h .bound) (2 ^ hbits w)) t in
+      (read-ok w x (h .val) (h .bound) (h .ok (u .0) .0) (h .ok (u .0) .1) (u .1), h .ok (u .0) .1);
 }
 
 -- an unsigned number of at most b, cast to a signed one

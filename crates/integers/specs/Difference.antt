@@ -74,8 +74,10 @@ pub ⊖-neg : (a b : ℕ) → negℤ (a ⊖ b) ≡ b ⊖ a
 pub ⊖-add : (a b c d : ℕ) → (a ⊖ b) +ℤ (c ⊖ d) ≡ (a + c) ⊖ (b + d)
 ⊖-add a b c d =
     ⊖-cases a b (λ z. z +ℤ (c ⊖ d) ≡ (a + c) ⊖ (b + d))
-    (λ k e. ⊖-cases c d (λ z. pos k +ℤ z ≡ (a + c) ⊖ (b + d)) (λ l e′. sym (pos-⊖ _ _ _ (omega arith))) (λ l e′. subℕ-is k (suc l) ∙ ⊖-eq _ _ _ _ (omega arith)))
-    (λ k e. ⊖-cases c d (λ z. negsuc k +ℤ z ≡ (a + c) ⊖ (b + d)) (λ l e′. subℕ-is l (suc k) ∙ ⊖-eq _ _ _ _ (omega arith)) (λ l e′. sym (neg-⊖ _ _ _ (omega arith))))
+    (λ k e. ⊖-cases c d (λ z. pos k +ℤ z ≡ (a + c) ⊖ (b + d)) (λ l e′. sym (pos-⊖ _ _ _ (omega arith)))
+    (λ l e′. subℕ-is k (suc l) ∙ ⊖-eq _ _ _ _ (omega arith)))
+    (λ k e. ⊖-cases c d (λ z. negsuc k +ℤ z ≡ (a + c) ⊖ (b + d)) (λ l e′. subℕ-is l (suc k) ∙ ⊖-eq _ _ _ _ (omega arith))
+    (λ l e′. sym (neg-⊖ _ _ _ (omega arith))))
 
 -- the product, from each case's two equations multiplied
 pos-mul : (k : ℕ) → negℤ (pos k) ≡ 0 ⊖ k

@@ -86,7 +86,8 @@ pub 0⋖pos : (n : ℕ) → 0 < n → pos 0 <ℤ pos n
 
 -- the parts of a sum, a difference and an opposite, and |x|
 pub sum : (x y : ℤ) → up (x +ℤ y) + (dn x + dn y) ≡ (up x + up y) + dn (x +ℤ y)
-sum x y = eq-⊖ (up (x +ℤ y)) (dn (x +ℤ y)) (up x + up y) (dn x + dn y) (sym (parts (x +ℤ y)) ∙ ap₂ _+ℤ_ (parts x) (parts y) ∙ ⊖-add (up x) (dn x) (up y) (dn y))
+sum x y =
+    eq-⊖ (up (x +ℤ y)) (dn (x +ℤ y)) (up x + up y) (dn x + dn y) (sym (parts (x +ℤ y)) ∙ ap₂ _+ℤ_ (parts x) (parts y) ∙ ⊖-add (up x) (dn x) (up y) (dn y))
 
 pub opp : (x : ℤ) → (up (negℤ x) ≡ dn x) × (dn (negℤ x) ≡ up x)
 opp (pos zero) = (refl, refl)
@@ -113,7 +114,12 @@ abbrev pub lin-neg : (ρ : List ℤ) (x : ℤ) → Lin ρ x → Lin ρ (negℤ x
 lin-neg ρ x h = record { p = h .n; n = h .p; ok = omega (arith, opp x, h .ok) }
 
 pub mul-parts : (k : ℕ) (x : ℤ) → up (pos k *ℤ x) + k * dn x ≡ k * up x + dn (pos k *ℤ x)
-mul-parts k x = eq-⊖ (up (pos k *ℤ x)) (dn (pos k *ℤ x)) (k * up x) (k * dn x) (sym (parts (pos k *ℤ x)) ∙ ap₂ _*ℤ_ (pos-is k) (parts x) ∙ ⊖-mul k 0 (up x) (dn x) ∙ ⊖-eq (k * up x + 0 * dn x) (k * dn x + 0 * up x) (k * up x) (k * dn x) (omega arith))
+mul-parts k x =
+    eq-⊖ (up (pos k *ℤ x)) (dn (pos k *ℤ x)) (k * up x) (k * dn x)
+    (sym (parts (pos k *ℤ x))
+    ∙ ap₂ _*ℤ_ (pos-is k) (parts x)
+    ∙ ⊖-mul k 0 (up x) (dn x)
+    ∙ ⊖-eq (k * up x + 0 * dn x) (k * dn x + 0 * up x) (k * up x) (k * dn x) (omega arith))
 
 pub mul-ok : (k a b p n : ℕ) (x : ℤ) → a + k * dn x ≡ k * up x + b → up x + n ≡ p + dn x → a + k * n ≡ k * p + b
 mul-ok k a b p n x e f = omega (arith, ap (λ t. k * t) f)

@@ -5,6 +5,7 @@ use mathlib.Core.Bool.{Bool, true, false, not, true≢false}
 use mathlib.Core.Logic.{_⊎_, inl, inr}
 use Prim.Native.Nat.{ℕ, zero, suc, _+_, _*_, _<_, _≤_}
 use native.Mathlib.Omega.{arith}
+use native.Mathlib.Decide.{decLe}
 use lib.Dec.{T, nleb→lt, le→leb, lt→ltb}
 use lib.IntN.{ℤ, pos, negsuc, negℤ, natAbs, _+ℤ_, _*ℤ_, _-ℤ_}
 use lib.Signed.{_≤ℤ_, _<ℤ_, leZ, ltZ, leZ-yes, ltZ-yes, ltZ-no}
@@ -32,7 +33,10 @@ pub ⋖→⩽ : {x y : ℤ} → x ⋖ y → x ⩽ y
     go : (x y : ℤ) → x ⋖ y → x ⩽ y
     go = by2 _ (λ a b c d. simp natify (omega arith))
 
--- the case splits
+-- the case splits, of naturals and of integers
+pub le-or-lt : (m n : ℕ) → (m ≤ n) ⊎ (n < m)
+le-or-lt m n = elim (decLe m n) [ yes h ↦ inl h | no h ↦ inr (omega arith) ]
+
 pub lt-or-ge : (x y : ℤ) → (x ⋖ y) ⊎ (y ⩽ x)
 lt-or-ge x y = go (ltZ x y) refl
   where

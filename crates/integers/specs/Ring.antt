@@ -117,13 +117,16 @@ mono-pick Ordering·gt x y ρ v p q = q
 
 mono-insert : (i : ℕ) (m : List ℕ) (ρ : List ℤ) → mono (insert i m) ρ ≡ nth ρ i *ℤ mono m ρ
 mono-insert i [] ρ = refl
-mono-insert i (j ∷ m) ρ = mono-pick (compare i j) (i ∷ j ∷ m) (j ∷ insert i m) ρ (nth ρ i *ℤ (nth ρ j *ℤ mono m ρ)) refl (ap (λ t. nth ρ j *ℤ t) (mono-insert i m ρ) ∙ *ℤ-left-comm (nth ρ j) (nth ρ i) (mono m ρ))
+mono-insert i (j ∷ m) ρ =
+    mono-pick (compare i j) (i ∷ j ∷ m) (j ∷ insert i m) ρ (nth ρ i *ℤ (nth ρ j *ℤ mono m ρ)) refl
+    (ap (λ t. nth ρ j *ℤ t) (mono-insert i m ρ) ∙ *ℤ-left-comm (nth ρ j) (nth ρ i) (mono m ρ))
 
 mono-join : (m n : List ℕ) (ρ : List ℤ) → mono (join m n) ρ ≡ mono m ρ *ℤ mono n ρ
 mono-join [] n ρ = sym (one-*ℤ (mono n ρ))
 mono-join (i ∷ m) n ρ = mono-insert i (join m n) ρ ∙ ap (λ t. nth ρ i *ℤ t) (mono-join m n ρ) ∙ sym (*ℤ-assoc (nth ρ i) (mono m ρ) (mono n ρ))
 
-total-choose : (o : Ordering) (x y z : Poly) (ρ : List ℤ) (v : ℤ) → total x ρ ≡ v → (T (isEq o) → total y ρ ≡ v) → total z ρ ≡ v → total (choose o x y z) ρ ≡ v
+total-choose : (o : Ordering) (x y z : Poly) (ρ : List ℤ) (v : ℤ) → total x ρ ≡ v → (T (isEq o) → total y ρ ≡ v) → total z ρ ≡ v →
+    total (choose o x y z) ρ ≡ v
 total-choose Ordering·lt x y z ρ v p q r = p
 total-choose Ordering·eq x y z ρ v p q r = q tt
 total-choose Ordering·gt x y z ρ v p q r = r
@@ -138,12 +141,16 @@ total-ins c m none ρ = total-put c m none ρ
 total-ins c m (term d n p) ρ =
     total-choose (cmp m n) (put c m (term d n p)) (put (c +ℤ d) n p) (term d n (ins c m p)) ρ (c *ℤ mono m ρ +ℤ (d *ℤ mono n ρ +ℤ total p ρ))
     (total-put c m (term d n p) ρ)
-    (λ t. total-put (c +ℤ d) n p ρ ∙ ap (λ u. u +ℤ total p ρ) (+ℤ-*ℤ c d (mono n ρ)) ∙ +ℤ-assoc (c *ℤ mono n ρ) (d *ℤ mono n ρ) (total p ρ) ∙ ap (λ (k : List ℕ). c *ℤ mono k ρ +ℤ (d *ℤ mono n ρ +ℤ total p ρ)) (sym (cmp-eq m n t)))
+    (λ t. total-put (c +ℤ d) n p ρ
+    ∙ ap (λ u. u +ℤ total p ρ) (+ℤ-*ℤ c d (mono n ρ))
+    ∙ +ℤ-assoc (c *ℤ mono n ρ) (d *ℤ mono n ρ) (total p ρ)
+    ∙ ap (λ (k : List ℕ). c *ℤ mono k ρ +ℤ (d *ℤ mono n ρ +ℤ total p ρ)) (sym (cmp-eq m n t)))
     (ap (λ u. d *ℤ mono n ρ +ℤ u) (total-ins c m p ρ) ∙ +ℤ-left-comm (d *ℤ mono n ρ) (c *ℤ mono m ρ) (total p ρ))
 
 total-plus : (p q : Poly) (ρ : List ℤ) → total (plus p q) ρ ≡ total p ρ +ℤ total q ρ
 total-plus none q ρ = sym (+ℤ-idl (total q ρ))
-total-plus (term c m p) q ρ = total-ins c m (plus p q) ρ ∙ ap (λ u. c *ℤ mono m ρ +ℤ u) (total-plus p q ρ) ∙ sym (+ℤ-assoc (c *ℤ mono m ρ) (total p ρ) (total q ρ))
+total-plus (term c m p) q ρ =
+    total-ins c m (plus p q) ρ ∙ ap (λ u. c *ℤ mono m ρ +ℤ u) (total-plus p q ρ) ∙ sym (+ℤ-assoc (c *ℤ mono m ρ) (total p ρ) (total q ρ))
 
 total-scale : (c : ℤ) (m : List ℕ) (p q : Poly) (ρ : List ℤ) → total (scale c m p q) ρ ≡ c *ℤ mono m ρ *ℤ total p ρ +ℤ total q ρ
 total-scale c m none q ρ = sym (ap (λ u. u +ℤ total q ρ) (*ℤ-zero (c *ℤ mono m ρ)) ∙ +ℤ-idl (total q ρ))
@@ -155,14 +162,16 @@ total-scale c m (term d n p) q ρ =
 
 total-times : (p q : Poly) (ρ : List ℤ) → total (times p q) ρ ≡ total p ρ *ℤ total q ρ
 total-times none q ρ = sym (zero-*ℤ (total q ρ))
-total-times (term c m p) q ρ = total-scale c m q (times p q) ρ ∙ ap (λ u. c *ℤ mono m ρ *ℤ total q ρ +ℤ u) (total-times p q ρ) ∙ sym (+ℤ-*ℤ (c *ℤ mono m ρ) (total p ρ) (total q ρ))
+total-times (term c m p) q ρ =
+    total-scale c m q (times p q) ρ ∙ ap (λ u. c *ℤ mono m ρ *ℤ total q ρ +ℤ u) (total-times p q ρ) ∙ sym (+ℤ-*ℤ (c *ℤ mono m ρ) (total p ρ) (total q ρ))
 
 pub norm-sound : (e : Ex) (ρ : List ℤ) → total (norm e) ρ ≡ eval e ρ
 norm-sound (var i) ρ = +ℤ-idr (pos 1 *ℤ (nth ρ i *ℤ pos 1)) ∙ one-*ℤ (nth ρ i *ℤ pos 1) ∙ *ℤ-1 (nth ρ i)
 norm-sound (con k) ρ = total-put k [] none ρ ∙ +ℤ-idr (k *ℤ pos 1) ∙ *ℤ-1 k
 norm-sound (add a b) ρ = total-plus (norm a) (norm b) ρ ∙ ap₂ _+ℤ_ (norm-sound a ρ) (norm-sound b ρ)
 norm-sound (mul a b) ρ = total-times (norm a) (norm b) ρ ∙ ap₂ _*ℤ_ (norm-sound a ρ) (norm-sound b ρ)
-norm-sound (neg a) ρ = total-scale (negsuc 0) [] (norm a) none ρ ∙ +ℤ-idr (negsuc 0 *ℤ pos 1 *ℤ total (norm a) ρ) ∙ minus-one-*ℤ (total (norm a) ρ) ∙ ap negℤ (norm-sound a ρ)
+norm-sound (neg a) ρ =
+    total-scale (negsuc 0) [] (norm a) none ρ ∙ +ℤ-idr (negsuc 0 *ℤ pos 1 *ℤ total (norm a) ρ) ∙ minus-one-*ℤ (total (norm a) ρ) ∙ ap negℤ (norm-sound a ρ)
 
 -- ---- an expression read off a term, by `search`
 pub record At (ρ : List ℤ) (x : ℤ) : Type 0 where

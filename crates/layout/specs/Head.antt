@@ -7,7 +7,7 @@ use lib.Dec.{eqb, ltb}
 use lib.ListN.{length}
 use Rattle.codec.specs.LittleEndian.{getUnsigned}
 use Rattle.level.specs.Answer.{Answer, refuse-if, refuse-at}
-use Rattle.series.specs.Search.{found}
+use Rattle.optimality.specs.Search.{found}
 use Rattle.layout.specs.Format.{minutes, segment-count, line-offset, size}
 
 -- the first byte of the first field that differs from the table

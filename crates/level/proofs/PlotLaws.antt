@@ -22,7 +22,7 @@ use Rattle.level.specs.Limits.{Valid}
 use Rattle.level.specs.Order.{cross}
 use Rattle.level.specs.Plot.{nearestTo, signed, num, den, NearestF64}
 use Rattle.level.specs.declared.Level.{Level}
-use Rattle.level.proofs.Nearest.{nearest-f64}
+use Rattle.level.proofs.NearestF64.{nearest-f64}
 
 pub plus-zero : (length : ℕ) → 0 < length → nearestTo (record { length = length; total = pos 0 }) ≡ fin false 0 (pos 0)
 plus-zero length h = round-same binary64 false 0 length 0 1 h (lit< tt) (mul-one 0 ∙ sym (zero-mul length)) ∙ zero

@@ -14,7 +14,8 @@ use lib.Ieee.Digits.{size-reaches, size-le}
 use lib.Ieee.Fits.{nearest-le, kept-lt, down-pos}
 use lib.Ieee.Bits.{ofBits-toBits}
 use lib.Ieee.Order.{drop, kept}
-use Rattle.level.proofs.Closest.{apart, le-or-lt, closest-best, closest-half}
+use Rattle.integers.specs.Order.{le-or-lt}
+use Rattle.level.proofs.ClosestMultiple.{apart, closest-best, closest-half}
 
 back : (a l : ℕ) → l ≤ a → a - l + l ≡ a
 back a l h = omega arith

@@ -38,9 +38,9 @@ den nan = 1
 den (inf s) = 1
 den (fin s m e) = down e
 
--- the distance of v and the level a is off v a / (den v * length)
-abbrev pub off : Float → Level → ℕ
-off v a = natAbs (num v *ℤ pos (a .length) -ℤ a .total *ℤ pos (den v))
+-- the distance of v and the level a, times den v * length
+abbrev pub distance : Float → Level → ℕ
+distance v a = natAbs (num v *ℤ pos (a .length) -ℤ a .total *ℤ pos (den v))
 
 -- the last bit of an f64 is 0
 abbrev pub Even : Float → Type 0
@@ -50,9 +50,9 @@ Even v = toBits binary64 v % 2 ≡ 0
 pub record NearestF64 (a : Level) (v : Float) : Type 0 where
   pub f64 : T (fits binary64 v)
   pub real : T (finite v)
-  pub within : off v a * 1073741824 ≤ a .length * den v
-  pub best : (y : Float) → T (fits binary64 y) → T (finite y) → off v a * den y ≤ off y a * den v
-  pub even : (y : Float) → T (fits binary64 y) → T (finite y) → (v ≡ y → ⊥) → off v a * den y ≡ off y a * den v → Even v
+  pub within : distance v a * 1073741824 ≤ a .length * den v
+  pub best : (y : Float) → T (fits binary64 y) → T (finite y) → distance v a * den y ≤ distance y a * den v
+  pub even : (y : Float) → T (fits binary64 y) → T (finite y) → (v ≡ y → ⊥) → distance v a * den y ≡ distance y a * den v → Even v
 
 abbrev pub NearestPlot : Level → Plotted → Type 0
 NearestPlot a (Plotted.Value v) = NearestF64 a v

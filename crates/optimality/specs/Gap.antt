@@ -15,7 +15,7 @@ use Rattle.integers.specs.Products.{low}
 use Rattle.optimality.specs.Series.{Minute}
 use Rattle.optimality.specs.Conditions.{after, Turn, Optimal}
 use Rattle.optimality.specs.Cost.{misfit, variation, cost, distance}
-use Rattle.optimality.specs.Along.{Turns, Meets, meets↔optimal}
+use Rattle.optimality.specs.ConditionsLaws.{Turns, Meets, meets↔optimal}
 
 -- ---- what the duals a and b at the ends add to the cost: 2 Q (b z[N] − a z[1]), which is 0 for a whole series
 unfoldable pub last : ℤ → List ℤ → ℤ
@@ -55,19 +55,23 @@ step : (Q L U w y x x′ z z′ E ex ez jx jz Jx Jz Mx Mz A : ℤ) →
     negℤ (Q *ℤ L) *ℤ jz ⩽ U′ *ℤ (z′ -ℤ z) →
     U′ *ℤ (x′ -ℤ x) ⩽ negℤ (Q *ℤ L) *ℤ jx →
     Mx +ℤ pos 2 *ℤ L *ℤ Q *ℤ Jx +ℤ A +ℤ pos 2 *ℤ (U′ *ℤ (z′ -ℤ x′) -ℤ E *ℤ (ez -ℤ ex)) ⩽ Mz +ℤ pos 2 *ℤ L *ℤ Q *ℤ Jz →
-    w *ℤ ((Q *ℤ y -ℤ x) *ℤ (Q *ℤ y -ℤ x)) +ℤ Mx +ℤ pos 2 *ℤ L *ℤ Q *ℤ (jx +ℤ Jx) +ℤ (w *ℤ ((z -ℤ x) *ℤ (z -ℤ x)) +ℤ A) +ℤ pos 2 *ℤ (U *ℤ (z -ℤ x) -ℤ E *ℤ (ez -ℤ ex))
+    w *ℤ ((Q *ℤ y -ℤ x) *ℤ (Q *ℤ y -ℤ x)) +ℤ Mx +ℤ pos 2 *ℤ L *ℤ Q *ℤ (jx +ℤ Jx) +ℤ (w *ℤ ((z -ℤ x) *ℤ (z -ℤ x)) +ℤ A)
+    +ℤ pos 2 *ℤ (U *ℤ (z -ℤ x) -ℤ E *ℤ (ez -ℤ ex))
     ⩽ w *ℤ ((Q *ℤ y -ℤ z) *ℤ (Q *ℤ y -ℤ z)) +ℤ Mz +ℤ pos 2 *ℤ L *ℤ Q *ℤ (jz +ℤ Jz)
 step Q L U w y x x′ z z′ E ex ez jx jz Jx Jz Mx Mz A h k i =
-    by⩽ (Q ∷ L ∷ U ∷ w ∷ y ∷ x ∷ x′ ∷ z ∷ z′ ∷ E ∷ ex ∷ ez ∷ jx ∷ jz ∷ Jx ∷ Jz ∷ Mx ∷ Mz ∷ A ∷ []) (gap i ⊕ gap h ⊕ gap h ⊕ gap k ⊕ gap k) (search reify depth 40 fits 20000) refl
+    by⩽ (Q ∷ L ∷ U ∷ w ∷ y ∷ x ∷ x′ ∷ z ∷ z′ ∷ E ∷ ex ∷ ez ∷ jx ∷ jz ∷ Jx ∷ Jz ∷ Mx ∷ Mz ∷ A ∷ []) (gap i ⊕ gap h ⊕ gap h ⊕ gap k ⊕ gap k)
+    (search reify depth 40 fits 20000) refl
 
 -- the last minute
 end : (Q L U w y x z E : ℤ) → U +ℤ w *ℤ (Q *ℤ y -ℤ x) ≡ E →
-    w *ℤ ((Q *ℤ y -ℤ x) *ℤ (Q *ℤ y -ℤ x)) +ℤ pos 0 +ℤ pos 2 *ℤ L *ℤ Q *ℤ pos 0 +ℤ (w *ℤ ((z -ℤ x) *ℤ (z -ℤ x)) +ℤ pos 0) +ℤ pos 2 *ℤ (U *ℤ (z -ℤ x) -ℤ E *ℤ (z -ℤ x))
+    w *ℤ ((Q *ℤ y -ℤ x) *ℤ (Q *ℤ y -ℤ x)) +ℤ pos 0 +ℤ pos 2 *ℤ L *ℤ Q *ℤ pos 0 +ℤ (w *ℤ ((z -ℤ x) *ℤ (z -ℤ x)) +ℤ pos 0)
+    +ℤ pos 2 *ℤ (U *ℤ (z -ℤ x) -ℤ E *ℤ (z -ℤ x))
     ⩽ w *ℤ ((Q *ℤ y -ℤ z) *ℤ (Q *ℤ y -ℤ z)) +ℤ pos 0 +ℤ pos 2 *ℤ L *ℤ Q *ℤ pos 0
 end Q L U w y x z E e = rw (← e) (by⩽ (Q ∷ L ∷ U ∷ w ∷ y ∷ x ∷ z ∷ []) (≤ℤ-refl (pos 0)) (search reify depth 40 fits 20000) refl)
 
 along : (Q L b U : ℤ) (m : Minute) (ms : List Minute) (x : ℤ) (xs : List ℤ) (z : ℤ) (zs : List ℤ) → Meets Q L b U (m ∷ ms) (x ∷ xs) → length zs ≡ length ms →
-    cost Q L (m ∷ ms) (x ∷ xs) +ℤ distance (m ∷ ms) (z ∷ zs) (x ∷ xs) +ℤ pos 2 *ℤ (U *ℤ (z -ℤ x) -ℤ Q *ℤ b *ℤ (last z zs -ℤ last x xs)) ⩽ cost Q L (m ∷ ms) (z ∷ zs)
+    cost Q L (m ∷ ms) (x ∷ xs) +ℤ distance (m ∷ ms) (z ∷ zs) (x ∷ xs) +ℤ pos 2 *ℤ (U *ℤ (z -ℤ x) -ℤ Q *ℤ b *ℤ (last z zs -ℤ last x xs))
+    ⩽ cost Q L (m ∷ ms) (z ∷ zs)
 unfolding Meets Turns misfit variation distance last
 along Q L b U m [] x [] z [] h e = end Q L U (m .weight) (m .sample) x z (Q *ℤ b) (h .0)
 along Q L b U m [] x [] z (z′ ∷ zs) h e = absurd (omega arith)
@@ -75,22 +79,28 @@ along Q L b U m [] x (x′ ∷ xs) z zs h e = absurd (h .1)
 along Q L b U m (m′ ∷ ms) x [] z zs h e = absurd (h .1)
 along Q L b U m (m′ ∷ ms) x (x′ ∷ xs) z [] h e = absurd (omega arith)
 along Q L b U m (m′ ∷ ms) x (x′ ∷ xs) z (z′ ∷ zs) h e =
-    step Q L U (m .weight) (m .sample) x x′ z z′ (Q *ℤ b) (last x′ xs) (last z′ zs) _ _ (variation (x′ ∷ xs)) (variation (z′ ∷ zs)) (misfit Q (m′ ∷ ms) (x′ ∷ xs)) (misfit Q (m′ ∷ ms) (z′ ∷ zs)) (distance (m′ ∷ ms) (z′ ∷ zs) (x′ ∷ xs))
+    step Q L U (m .weight) (m .sample) x x′ z z′ (Q *ℤ b) (last x′ xs) (last z′ zs) _ _ (variation (x′ ∷ xs)) (variation (z′ ∷ zs))
+    (misfit Q (m′ ∷ ms) (x′ ∷ xs)) (misfit Q (m′ ∷ ms) (z′ ∷ zs)) (distance (m′ ∷ ms) (z′ ∷ zs) (x′ ∷ xs))
     (low (Q *ℤ L) (after Q U m x) (z′ -ℤ z) (h .0 .low) (h .0 .high))
     (at-turn (h .0))
     (along Q L b (after Q U m x) m′ ms x′ xs z′ zs (h .1) (omega arith))
 
-pub gap-between : (Q L a b : ℤ) (ms : List Minute) (xs zs : List ℤ) → Optimal Q L a b ms xs → length zs ≡ length ms → distance ms zs xs ⩽ cost-between Q L a b ms zs -ℤ cost-between Q L a b ms xs
+pub gap-between : (Q L a b : ℤ) (ms : List Minute) (xs zs : List ℤ) → Optimal Q L a b ms xs → length zs ≡ length ms →
+    distance ms zs xs ⩽ cost-between Q L a b ms zs -ℤ cost-between Q L a b ms xs
 unfolding Meets ends distance
 gap-between Q L a b ms xs zs h = go ms xs zs (meets↔optimal Q L a b ms xs .1 h)
   where
-    regroup : (x z ex ez Cx Cz A : ℤ) → Cx +ℤ A +ℤ pos 2 *ℤ (Q *ℤ a *ℤ (z -ℤ x) -ℤ Q *ℤ b *ℤ (ez -ℤ ex)) ⩽ Cz → A ⩽ Cz +ℤ pos 2 *ℤ Q *ℤ (b *ℤ ez -ℤ a *ℤ z) -ℤ (Cx +ℤ pos 2 *ℤ Q *ℤ (b *ℤ ex -ℤ a *ℤ x))
+    regroup : (x z ex ez Cx Cz A : ℤ) → Cx +ℤ A +ℤ pos 2 *ℤ (Q *ℤ a *ℤ (z -ℤ x) -ℤ Q *ℤ b *ℤ (ez -ℤ ex)) ⩽ Cz →
+        A ⩽ Cz +ℤ pos 2 *ℤ Q *ℤ (b *ℤ ez -ℤ a *ℤ z) -ℤ (Cx +ℤ pos 2 *ℤ Q *ℤ (b *ℤ ex -ℤ a *ℤ x))
     regroup x z ex ez Cx Cz A h = by⩽ (Q ∷ a ∷ b ∷ x ∷ z ∷ ex ∷ ez ∷ Cx ∷ Cz ∷ A ∷ []) (gap h) (search reify depth 40 fits 20000) refl
 
-    go : (ms : List Minute) (xs zs : List ℤ) → Meets Q L b (Q *ℤ a) ms xs → length zs ≡ length ms → distance ms zs xs ⩽ cost-between Q L a b ms zs -ℤ cost-between Q L a b ms xs
+    go : (ms : List Minute) (xs zs : List ℤ) → Meets Q L b (Q *ℤ a) ms xs → length zs ≡ length ms →
+        distance ms zs xs ⩽ cost-between Q L a b ms zs -ℤ cost-between Q L a b ms xs
     go [] [] [] h e = gap (≤ℤ-refl (cost-between Q L a b [] []))
     go [] [] (z ∷ zs) h e = absurd (omega arith)
     go [] (x ∷ xs) zs h e = absurd h
     go (m ∷ ms) [] zs h e = absurd h
     go (m ∷ ms) (x ∷ xs) [] h e = absurd (omega arith)
-    go (m ∷ ms) (x ∷ xs) (z ∷ zs) h e = regroup x z (last x xs) (last z zs) (cost Q L (m ∷ ms) (x ∷ xs)) (cost Q L (m ∷ ms) (z ∷ zs)) (distance (m ∷ ms) (z ∷ zs) (x ∷ xs)) (along Q L b (Q *ℤ a) m ms x xs z zs h (omega arith))
+    go (m ∷ ms) (x ∷ xs) (z ∷ zs) h e =
+        regroup x z (last x xs) (last z zs) (cost Q L (m ∷ ms) (x ∷ xs)) (cost Q L (m ∷ ms) (z ∷ zs)) (distance (m ∷ ms) (z ∷ zs) (x ∷ xs))
+        (along Q L b (Q *ℤ a) m ms x xs z zs h (omega arith))

@@ -1,30 +1,31 @@
 -- Definitions, to be read first.
 pub mod Series
 pub mod Conditions
+pub mod Search
 pub mod Segments
 pub mod Cost
 pub mod Minimum
 pub mod Machine
 -- Laws: what meets the conditions is the minimum, and the only one.
-pub mod Along
+pub mod ConditionsLaws
 pub mod Scales
-pub mod Verdict
+pub mod FirstBreakLaws
 pub mod Gap
-pub mod Optimum
-pub mod Unique
-pub mod Plain
-pub mod Candidate
+pub mod LeastCost
+pub mod Uniqueness
+pub mod PlainSeries
+pub mod MinimumLaws
 pub mod Totals
-pub mod Range
+pub mod SampleRange
 -- Laws: the ten steps end, and give what meets them.
-pub mod Rates
-pub mod Half
+pub mod Fractions
+pub mod SideInvariant
 pub mod Tube
-pub mod Path
-pub mod Tests
-pub mod Steps
-pub mod Sound
-pub mod Correct
-pub mod Limits
+pub mod TubePath
+pub mod StepTests
+pub mod StepInvariant
+pub mod MachineLaws
+pub mod Correctness
+pub mod SmallNumbers
 pub mod Known
 pub mod Theorems

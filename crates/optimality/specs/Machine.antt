@@ -1,6 +1,6 @@
 -- The ten steps of Condat 2013 in whole numbers, one `step` after the other; `line` is their run.
 -- The machine sees the increments of a series: minute j + 1 has the weight w j and adds p j, its weight times its sample.
-use mathlib.Core.Bool.{Bool, true, false}
+use mathlib.Core.Bool.{Bool, true, false, cond}
 use mathlib.Core.List.{List, [], _∷_}
 use Prim.Native.Nat.{ℕ, zero, suc, _+_, _*_, _-_}
 use lib.Dec.{ltb}
@@ -21,7 +21,14 @@ pub record Increments : Type 0 where
 -- those of a series at smoothing L, from the dual a to the dual b
 abbrev pub increments : (L a b : ℤ) → List Minute → Increments
 increments L a b ms =
-    record { N = length ms; w = λ j. getD ms j (plain-minute (pos 0)) .weight; p = λ j. getD ms j (plain-minute (pos 0)) .weight *ℤ getD ms j (plain-minute (pos 0)) .sample; L = L; a = a; b = b }
+    record {
+      N = length ms;
+      w = λ j. getD ms j (plain-minute (pos 0)) .weight;
+      p = λ j. getD ms j (plain-minute (pos 0)) .weight *ℤ getD ms j (plain-minute (pos 0)) .sample;
+      L = L;
+      a = a;
+      b = b;
+    }
 
 -- those of a plain series
 abbrev pub plain-increments : ℤ → List ℤ → Increments
@@ -41,35 +48,6 @@ pub record State : Type 0 where
   pub nmax : ℤ
   pub kmax : ℕ
 
--- ---- the eight variables of Condat 2013, steps 1 to 10
-pub record Fraction : Type 0 where
-  pub num : ℤ
-  pub den : ℤ
-
-pub record Variables : Type 0 where
-  pub k : ℕ
-  pub k₀ : ℕ
-  pub k₋ : ℕ
-  pub k₊ : ℕ
-  pub v-min : Fraction
-  pub v-max : Fraction
-  pub u-min : Fraction
-  pub u-max : Fraction
-
--- u_min is the dual at k if the level were v_min: U − n v_min; and so u_max
-abbrev pub variables : State → Variables
-variables s =
-    record {
-      k = s .k;
-      k₀ = suc (s .i);
-      k₋ = s .kmin;
-      k₊ = s .kmax;
-      v-min = record { num = s .tmin; den = s .nmin };
-      v-max = record { num = s .tmax; den = s .nmax };
-      u-min = record { num = s .nmin *ℤ s .U -ℤ s .n *ℤ s .tmin; den = s .nmin };
-      u-max = record { num = s .nmax *ℤ s .U -ℤ s .n *ℤ s .tmax; den = s .nmax };
-    }
-
 -- ---- the steps
 -- a step goes on, closes a segment and goes on, or closes the last one
 pub data Out : Type 0 where
@@ -84,10 +62,6 @@ follow rest (stop g) = g ∷ []
 
 abbrev pub segment : ℕ → ℤ → ℤ → Segment
 segment len n total = record { len = len; divisor = natAbs n; total = total }
-
-abbrev pub pick : {A : Type 0} → Bool → A → A → A
-pick true x y = x
-pick false x y = y
 
 module _ (d : Increments) where
   open Increments d using (N, w, p, L, a, b)
@@ -123,12 +97,12 @@ module _ (d : Increments) where
         k = suc (s .k);
         U = U′;
         n = n′;
-        tmin = pick keep-min (s .tmin) (U′ -ℤ L);
-        nmin = pick keep-min (s .nmin) n′;
-        kmin = pick keep-min (s .kmin) (suc (s .k));
-        tmax = pick keep-max (s .tmax) (U′ +ℤ L);
-        nmax = pick keep-max (s .nmax) n′;
-        kmax = pick keep-max (s .kmax) (suc (s .k));
+        tmin = cond keep-min (s .tmin) (U′ -ℤ L);
+        nmin = cond keep-min (s .nmin) n′;
+        kmin = cond keep-min (s .kmin) (suc (s .k));
+        tmax = cond keep-max (s .tmax) (U′ +ℤ L);
+        nmax = cond keep-max (s .nmax) n′;
+        kmax = cond keep-max (s .kmax) (suc (s .k));
       }
 
   -- steps 3 to 6 by the outcomes of the tests 3 and 4
@@ -142,10 +116,12 @@ module _ (d : Increments) where
 
   -- steps 8 and 9 begin a segment as 3 and 4 do, but keep the other bound
   abbrev pub keep-max : State → State → State
-  keep-max s f = record { i = f .i; k = f .k; U = f .U; n = f .n; tmin = f .tmin; nmin = f .nmin; kmin = f .kmin; tmax = s .tmax; nmax = s .nmax; kmax = s .kmax }
+  keep-max s f =
+      record { i = f .i; k = f .k; U = f .U; n = f .n; tmin = f .tmin; nmin = f .nmin; kmin = f .kmin; tmax = s .tmax; nmax = s .nmax; kmax = s .kmax }
 
   abbrev pub keep-min : State → State → State
-  keep-min s f = record { i = f .i; k = f .k; U = f .U; n = f .n; tmin = s .tmin; nmin = s .nmin; kmin = s .kmin; tmax = f .tmax; nmax = f .nmax; kmax = f .kmax }
+  keep-min s f =
+      record { i = f .i; k = f .k; U = f .U; n = f .n; tmin = s .tmin; nmin = s .nmin; kmin = s .kmin; tmax = f .tmax; nmax = f .nmax; kmax = f .kmax }
 
   -- steps 8 to 10 by the outcomes of the tests 8 and 9; step 2 is step 10 at a segment of one minute
   abbrev pub final : State → Bool → Bool → Out

@@ -41,4 +41,5 @@ plain-cost q L ys ps = squares (times q ys) ps +ℤ pos 2 *ℤ L *ℤ q *ℤ var
 abbrev pub PlainMinimum : (L : ℤ) → List ℤ → List Segment → Type 0
 PlainMinimum L ys ss = (q : ℕ) (ps : List ℤ) → length ps ≡ length ys → (Q : ℕ) → 0 < Q → Q % q ≡ 0 → Scale Q ss →
     Best (numerators Q ss) (times (pos (Q / q)) ps)
-    (plain-cost (pos Q) L ys (numerators Q ss)) (pos (Q / q) *ℤ pos (Q / q) *ℤ plain-cost (pos q) L ys ps) (squares (times (pos (Q / q)) ps) (numerators Q ss))
+    (plain-cost (pos Q) L ys (numerators Q ss)) (pos (Q / q) *ℤ pos (Q / q) *ℤ plain-cost (pos q) L ys ps)
+    (squares (times (pos (Q / q)) ps) (numerators Q ss))

@@ -61,7 +61,8 @@ unfolding product total-length Proper Weighed
 0<product ms [] p r l w = omega arith
 0<product ms (s ∷ ss) p r l w =
     let h : 0 < s .len = r .0 in
-    mul-pos (0<weight (s .len) ms p h (omega arith) (s .divisor) (w .0)) (0<product (drop (s .len) ms) ss (positive-drop (s .len) ms p) (r .2) (omega (arith, length-drop (s .len) ms)) (w .1))
+    mul-pos (0<weight (s .len) ms p h (omega arith) (s .divisor) (w .0))
+    (0<product (drop (s .len) ms) ss (positive-drop (s .len) ms p) (r .2) (omega (arith, length-drop (s .len) ms)) (w .1))
 
 -- ---- a scale of both
 pub record Common (ss ss′ : List Segment) : Type 0 where

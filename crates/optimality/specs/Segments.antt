@@ -2,14 +2,15 @@
 use mathlib.Core.Path.{_≡_}
 use mathlib.Core.Logic.{_≢_}
 use mathlib.Core.List.{List, [], _∷_, _++_}
-use mathlib.Core.Bool.{Bool, true, false, cond, _&&_}
-use mathlib.Core.Option.{Option, none, some}
+use mathlib.Core.Bool.{Bool, cond, _||_}
+use mathlib.Core.Option.{Option, none}
 use Prim.Native.Nat.{ℕ, zero, suc, _+_, _<_, _/_, _%_}
 use lib.ListN.{length, replicate, drop}
-use lib.Signed.{leZ, ltZ}
+use lib.Signed.{ltZ}
 use lib.IntN.{ℤ, pos, negℤ, _+ℤ_, _*ℤ_}
 use Rattle.optimality.specs.Series.{Minute}
 use Rattle.optimality.specs.Conditions.{after}
+use Rattle.optimality.specs.Search.{found}
 
 -- the level is total / divisor; a plain series' segment has its length for divisor
 pub record Segment : Type 0 where
@@ -62,23 +63,20 @@ by-divisor s u = pos (s .divisor) *ℤ u
 abbrev pub side : ℤ → Segment → Segment → ℤ
 side L s t = cond (ltZ (cross s t) (cross t s)) (negℤ L) L
 
-abbrev pub between : ℤ → ℤ → ℤ → Bool
-between lo v hi = leZ lo v && leZ v hi
-
--- where a test fails, its minute; else what the rest gives
-abbrev pub test : Bool → ℕ → Option ℕ → Option ℕ
-test true i rest = rest
-test false i rest = some i
+-- v is below lo or above hi
+abbrev pub outside : (lo v hi : ℤ) → Bool
+outside lo v hi = ltZ v lo || ltZ hi v
 
 -- the first minute that breaks (6) or (7), from the minute i on: ms are left of the series, n minutes are left of s, ss come after s
 unfoldable pub break-from : (L b : ℤ) → ℕ → List Minute → Segment → ℤ → ℕ → List Segment → Option ℕ
 break-from L b i [] s v n ss = none
 break-from L b i (m ∷ ms) s v zero ss = none
-break-from L b i (m ∷ ms) s v (suc zero) [] = test (between (by-divisor s b) (then-v s v m) (by-divisor s b)) i none
+break-from L b i (m ∷ ms) s v (suc zero) [] = found (outside (by-divisor s b) (then-v s v m) (by-divisor s b)) i none
 break-from L b i (m ∷ ms) s v (suc zero) (t ∷ ss) =
-    test (between (by-divisor s (side L s t)) (then-v s v m) (by-divisor s (side L s t))) i (break-from L b (suc i) ms t (by-divisor t (side L s t)) (t .len) ss)
+    found (outside (by-divisor s (side L s t)) (then-v s v m) (by-divisor s (side L s t))) i
+    (break-from L b (suc i) ms t (by-divisor t (side L s t)) (t .len) ss)
 break-from L b i (m ∷ ms) s v (suc (suc n)) ss =
-    test (between (by-divisor s (negℤ L)) (then-v s v m) (by-divisor s L)) i (break-from L b (suc i) ms s (then-v s v m) (suc n) ss)
+    found (outside (by-divisor s (negℤ L)) (then-v s v m) (by-divisor s L)) i (break-from L b (suc i) ms s (then-v s v m) (suc n) ss)
 
 -- of a line, from the dual a to the dual b
 unfoldable pub first-break : (L a b : ℤ) → List Minute → List Segment → Option ℕ

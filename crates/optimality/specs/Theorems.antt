@@ -12,13 +12,13 @@ use Rattle.optimality.specs.Conditions.{Optimal}
 use Rattle.optimality.specs.Segments.{Segment, IsLine, Scale, numerators}
 use Rattle.optimality.specs.Minimum.{PlainMinimum}
 use Rattle.optimality.specs.Machine.{plain-line}
-use Rattle.optimality.specs.Verdict.{optimal}
-use Rattle.optimality.specs.Unique.{unique}
-use Rattle.optimality.specs.Plain.{plain-positive, line-totals}
-use Rattle.optimality.specs.Candidate.{plain-minimum}
+use Rattle.optimality.specs.FirstBreakLaws.{optimal}
+use Rattle.optimality.specs.Uniqueness.{unique}
+use Rattle.optimality.specs.PlainSeries.{plain-positive, line-totals}
+use Rattle.optimality.specs.MinimumLaws.{plain-minimum}
 use Rattle.optimality.specs.Totals.{plain-totals}
-use Rattle.optimality.specs.Range.{Within, in-range}
-use Rattle.optimality.specs.Correct.{plain-correct}
+use Rattle.optimality.specs.SampleRange.{Within, in-range}
+use Rattle.optimality.specs.Correctness.{plain-correct}
 
 module _ (L : ℤ) (ys : List ℤ) (some : 0 < length ys) (smooth : pos 0 ⩽ L) where
   pub meets : IsLine L (pos 0) (pos 0) (plain ys) (plain-line L ys)

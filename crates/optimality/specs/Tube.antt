@@ -14,12 +14,12 @@ use Rattle.integers.specs.Order.{_⩽_, _⋖_, gap, gap<, ⋖→⩽}
 use Rattle.integers.specs.Linear.{int, sum, opp}
 use Rattle.integers.specs.Ring.{ring, reify}
 use Rattle.integers.specs.Certificates.{_⊕_, _⊗_, by⩽}
-use Rattle.optimality.specs.Machine.{Increments, plain-increments, Fraction}
-use Rattle.optimality.specs.Rates.{fraction, _≼_, _≺_, below, below-true, below-false, upward, downward}
-use Rattle.optimality.specs.Half.{Dir, flip, World, near-at, end-at}
+use Rattle.optimality.specs.Machine.{Increments, plain-increments}
+use Rattle.optimality.specs.Fractions.{Fraction, fraction, _≼_, _≺_, below, below-true, below-false, upward, downward}
+use Rattle.optimality.specs.SideInvariant.{View, flip, OpenTube, near-at, end-at}
 
 -- what is asked of the increments. Nothing is asked of the dual a
-pub record Right (d : Increments) : Type 0 where
+pub record ValidIncrements (d : Increments) : Type 0 where
   pub some : 0 < d .N
   pub weights : (j : ℕ) → j < d .N → pos 0 ⋖ d .w j
   pub smooth : pos 0 ⩽ d .L
@@ -29,8 +29,8 @@ pub record Right (d : Increments) : Type 0 where
 opp-z : (L : ℤ) → pos 0 ⩽ L → negℤ L ⩽ pos 0
 opp-z L h = omega (int, opp L)
 
-pub plain-right : (L : ℤ) (ys : List ℤ) → 0 < length ys → pos 0 ⩽ L → Right (plain-increments L ys)
-plain-right L ys h k = record { some = h; weights = λ j l. omega int; smooth = k; least = opp-z L k; most = k }
+pub plain-valid : (L : ℤ) (ys : List ℤ) → 0 < length ys → pos 0 ⩽ L → ValidIncrements (plain-increments L ys)
+plain-valid L ys h k = record { some = h; weights = λ j l. omega int; smooth = k; least = opp-z L k; most = k }
 
 -- the sum of the first j
 unfoldable pub prefix : (ℕ → ℤ) → ℕ → ℤ
@@ -78,8 +78,8 @@ module _ (d : Increments) where
   away floor x = x -ℤ d .L
   away roof x = x +ℤ d .L
 
-  abbrev pub dir : Side → Dir
-  dir σ = record { N = d .N; W = W; e = R (d .N) -ℤ d .b; near = λ j. away σ (R j); far = λ j. away (other σ) (R j); le = le σ; lt = lt σ }
+  abbrev pub view : Side → View
+  view σ = record { N = d .N; W = W; e = R (d .N) -ℤ d .b; near = λ j. away σ (R j); far = λ j. away (other σ) (R j); le = le σ; lt = lt σ }
 
   -- the dual where a side is touched
   abbrev pub edge : Side → ℤ
@@ -129,11 +129,11 @@ module _ (d : Increments) where
   abbrev pub new : Side → ℤ → ℤ → Fraction
   new σ U n = fraction (away d σ U) n
 
-  pub new-is : (σ : Side) (i j : ℕ) (z U n : ℤ) → U ≡ R d j -ℤ z → n ≡ W d j -ℤ W d i → new σ U n ≡ near-at (dir d σ) i z j
+  pub new-is : (σ : Side) (i j : ℕ) (z U n : ℤ) → U ≡ R d j -ℤ z → n ≡ W d j -ℤ W d i → new σ U n ≡ near-at (view d σ) i z j
   new-is floor i j z U n h k = ap₂ fraction (ap (λ x. x -ℤ L) h ∙ swap-z (R d j) z (negℤ L)) k
   new-is roof i j z U n h k = ap₂ fraction (ap (λ x. x +ℤ L) h ∙ swap-z (R d j) z L) k
 
-  pub end-is : (i : ℕ) (z U n : ℤ) → U ≡ R d N -ℤ z → n ≡ W d N -ℤ W d i → fraction (U -ℤ b) n ≡ end-at (dir d floor) i z
+  pub end-is : (i : ℕ) (z U n : ℤ) → U ≡ R d N -ℤ z → n ≡ W d N -ℤ W d i → fraction (U -ℤ b) n ≡ end-at (view d floor) i z
   end-is i z U n h k = ap₂ fraction (ap (λ x. x -ℤ b) h ∙ swap-z (R d N) z (negℤ b)) k
 
   pub edge-is : (σ : Side) (j : ℕ) → edge d σ ≡ R d j -ℤ away d σ (R d j)
@@ -168,19 +168,29 @@ grows N f g i (suc j) h k =
     (λ (l : i < j). more-z (prefix f i) (prefix f j) (f j) (⋖→⩽ (grows N f g i j l (omega arith))) (g j k))
     (eq-or-lt-of-le (omega arith))
 
-module _ (d : Increments) (r : Right d) where
+module _ (d : Increments) (r : ValidIncrements d) where
   open Increments d using (N, w, L, b)
 
   grow : (i j : ℕ) → i < j → j ≤ N → W d i ⋖ W d j
   grow = grows N w (r .weights)
 
-  tube : (i : ℕ) (z : ℤ) (j : ℕ) → i < j → j ≤ N → near-at (dir d floor) i z j ≼ near-at (dir d roof) i z j
+  tube : (i : ℕ) (z : ℤ) (j : ℕ) → i < j → j ≤ N → near-at (view d floor) i z j ≼ near-at (view d roof) i z j
   tube i z j h k = higher (R d j -ℤ L) (R d j +ℤ L) z (W d j -ℤ W d i) (gap< (grow i j h k)) (wide-z (R d j) L (r .smooth))
 
-  pub world : (σ : Side) → World (dir d σ)
-  world floor = record { laws = upward; grow = grow; tube = tube; goal = λ i z h. higher (R d N -ℤ L) (R d N -ℤ b) z (W d N -ℤ W d i) (gap< (grow i N h (omega arith))) (above-z (R d N) L b (r .most)) }
-  world roof = record { laws = downward; grow = grow; tube = tube; goal = λ i z h. higher (R d N -ℤ b) (R d N +ℤ L) z (W d N -ℤ W d i) (gap< (grow i N h (omega arith))) (beneath-z (R d N) L b (r .least)) }
+  pub open-tube : (σ : Side) → OpenTube (view d σ)
+  open-tube floor = record {
+    laws = upward;
+    grow = grow;
+    tube = tube;
+    goal = λ i z h. higher (R d N -ℤ L) (R d N -ℤ b) z (W d N -ℤ W d i) (gap< (grow i N h (omega arith))) (above-z (R d N) L b (r .most));
+  }
+  open-tube roof = record {
+    laws = downward;
+    grow = grow;
+    tube = tube;
+    goal = λ i z h. higher (R d N -ℤ b) (R d N +ℤ L) z (W d N -ℤ W d i) (gap< (grow i N h (omega arith))) (beneath-z (R d N) L b (r .least));
+  }
 
-  pub mirror : (σ : Side) → World (flip (dir d σ))
-  mirror floor = world roof
-  mirror roof = world floor
+  pub mirror : (σ : Side) → OpenTube (flip (view d σ))
+  mirror floor = open-tube roof
+  mirror roof = open-tube floor

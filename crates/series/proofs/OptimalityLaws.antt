@@ -5,10 +5,10 @@ use lib.IntN.{ℤ, pos}
 use Rattle.integers.specs.Order.{0⩽pos}
 use Rattle.optimality.specs.Series.{plain}
 use Rattle.optimality.specs.Segments.{Segment, IsLine}
-use Rattle.optimality.specs.Plain.{plain-positive}
+use Rattle.optimality.specs.PlainSeries.{plain-positive}
 use Rattle.optimality.specs.Scales.{common}
-use Rattle.optimality.specs.Verdict.{none↔optimal, optimal}
-use Rattle.optimality.specs.Candidate.{plain-minimum}
+use Rattle.optimality.specs.FirstBreakLaws.{none↔optimal, optimal}
+use Rattle.optimality.specs.MinimumLaws.{plain-minimum}
 use Rattle.series.specs.Optimality.{Meets, Least}
 
 module _ (ys : List ℤ) (L : ℕ) (ss : List Segment) where

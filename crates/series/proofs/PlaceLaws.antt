@@ -10,7 +10,8 @@ use lib.ListN.{length}
 use lib.IntN.{ℤ}
 use borrow.Author.Tests.{ltb-false}
 use Rattle.level.specs.Answer.{Answer, refused, given, refuse-if, refuse-at}
-use Rattle.series.specs.Search.{found, first-from}
+use Rattle.optimality.specs.Search.{found}
+use Rattle.series.specs.Search.{first-from}
 use Rattle.series.specs.Limits.{bad-sample, in-limits}
 use Rattle.series.proofs.Refusals.{never}
 

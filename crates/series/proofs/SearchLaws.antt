@@ -7,7 +7,8 @@ use native.Mathlib.Omega.{arith}
 use Prim.Native.Nat.{ℕ, zero, suc, _<_, _≤_}
 use lib.ListN.{length, getD, drop, drop-of-length-le}
 use lib.Seq.{drop-cons}
-use Rattle.series.specs.Search.{found, first-from, place-of}
+use Rattle.optimality.specs.Search.{found}
+use Rattle.series.specs.Search.{first-from, place-of}
 
 pub place-some : (k : ℕ) → 0 < k → place-of k ≡ some k
 place-some zero h = absurd (omega arith)

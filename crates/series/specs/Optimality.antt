@@ -7,7 +7,7 @@ use lib.IntN.{ℤ, pos}
 use Rattle.optimality.specs.Series.{plain}
 use Rattle.optimality.specs.Conditions.{Optimal}
 use Rattle.optimality.specs.Segments.{Segment, WellFormed, Scale, numerators}
-use Rattle.optimality.specs.Plain.{segments}
+use Rattle.optimality.specs.PlainSeries.{segments}
 use Rattle.optimality.specs.Minimum.{PlainMinimum}
 
 -- the segments have the form of a line, and meet (6) and (7) of Condat 2013 minute by minute, over every scale Q

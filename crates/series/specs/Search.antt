@@ -3,10 +3,7 @@ use mathlib.Core.Bool.{Bool, true, false}
 use mathlib.Core.List.{List, [], _∷_}
 use mathlib.Core.Option.{Option, none, some}
 use Prim.Native.Nat.{ℕ, zero, suc}
-
-abbrev pub found : Bool → ℕ → Option ℕ → Option ℕ
-found true place rest = some place
-found false place rest = rest
+use Rattle.optimality.specs.Search.{found}
 
 -- the number, counted from i, of the first that a test picks
 unfoldable pub first-from : {A : Type 0} → (A → Bool) → ℕ → List A → Option ℕ

@@ -11,9 +11,9 @@ use lib.ListN.{length, length-map}
 use lib.IntN.{ℤ, pos}
 use Rattle.integers.specs.Order.{0⩽pos}
 use Rattle.optimality.specs.Segments.{Segment, total-length, Proper}
-use Rattle.optimality.specs.Plain.{length-plain, line-lengths, line-totals}
+use Rattle.optimality.specs.PlainSeries.{length-plain, line-lengths, line-totals}
 use Rattle.optimality.specs.Machine.{plain-line}
-use Rattle.optimality.specs.Correct.{plain-correct}
+use Rattle.optimality.specs.Correctness.{plain-correct}
 use Rattle.series.specs.Limits.{in-limits}
 use Rattle.checker.specs.Check.{meets-conditions}
 use Rattle.series.proofs.LimitsLaws.{limits-given, limits-passed}

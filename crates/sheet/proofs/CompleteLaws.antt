@@ -12,8 +12,8 @@ use lib.IntN.{ℤ, pos}
 use Rattle.integers.specs.Order.{0⩽pos}
 use Rattle.optimality.specs.Series.{plain, Limited}
 use Rattle.optimality.specs.Segments.{IsLine}
-use Rattle.optimality.specs.Plain.{segments, line-lengths, unique-lists}
-use Rattle.optimality.specs.Plain as Plain
+use Rattle.optimality.specs.PlainSeries.{segments, line-lengths, unique-lists}
+use Rattle.optimality.specs.PlainSeries as Plain
 use Rattle.optimality.specs.Machine.{plain-line}
 use Rattle.level.specs.Answer.{Answer, refused, given, when-given}
 use Rattle.series.specs.Limits.{in-limits}

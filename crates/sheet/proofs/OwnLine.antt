@@ -9,7 +9,7 @@ use lib.Seq.{length-take-le}
 use lib.IntN.{ℤ, pos}
 use borrow.Author.Tests.{le-ltb}
 use Rattle.optimality.specs.Segments.{Segment}
-use Rattle.optimality.specs.Plain.{line-lengths, line-totals}
+use Rattle.optimality.specs.PlainSeries.{line-lengths, line-totals}
 use Rattle.optimality.specs.Machine.{plain-line}
 use Rattle.level.specs.Answer.{Answer, refused, given, when-given}
 use Rattle.series.specs.Limits.{in-limits}

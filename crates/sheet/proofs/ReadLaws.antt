@@ -10,7 +10,7 @@ use lib.Seq.{take-at}
 use lib.IntN.{ℤ, pos}
 use Rattle.optimality.specs.Series.{plain}
 use Rattle.optimality.specs.Segments.{IsLine}
-use Rattle.optimality.specs.Plain.{segments}
+use Rattle.optimality.specs.PlainSeries.{segments}
 use Rattle.level.specs.Answer.{Answer, refused, given, when-given}
 use Rattle.series.specs.Limits.{in-limits}
 use Rattle.series.specs.Answer.{refill, on-success, passing}

@@ -7,7 +7,7 @@ use lib.ListN.{length}
 use lib.IntN.{ℤ, pos}
 use Rattle.optimality.specs.Series.{plain}
 use Rattle.optimality.specs.Segments.{first-break}
-use Rattle.optimality.specs.Plain.{segments}
+use Rattle.optimality.specs.PlainSeries.{segments}
 use Rattle.level.specs.Answer.{Answer}
 use Rattle.series.specs.Limits.{in-limits}
 use Rattle.series.proofs.Refusals.{Alike, pass, if-alike, at-alike}

@@ -13,9 +13,9 @@ use Rattle.integers.specs.Order.{0⩽pos}
 use Rattle.optimality.specs.Series.{plain, Bounded, Limited}
 use Rattle.optimality.specs.Segments.{Segment, IsLine}
 use Rattle.optimality.specs.Segments as Segments
-use Rattle.optimality.specs.Range.{Within}
-use Rattle.optimality.specs.Plain.{segments, line-lengths, formed-lists, length-plain}
-use Rattle.optimality.specs.Plain as Plain
+use Rattle.optimality.specs.SampleRange.{Within}
+use Rattle.optimality.specs.PlainSeries.{segments, line-lengths, formed-lists, length-plain}
+use Rattle.optimality.specs.PlainSeries as Plain
 use Rattle.optimality.specs.Machine.{plain-line}
 use Rattle.optimality.specs.Theorems as Theorems
 use Rattle.level.specs.Answer.{Answer, given}

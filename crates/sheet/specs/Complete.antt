@@ -5,8 +5,8 @@ use Prim.Native.Nat.{ℕ, _≤_}
 use lib.ListN.{length, take}
 use lib.IntN.{ℤ, pos}
 use Rattle.optimality.specs.Segments.{Segment}
-use Rattle.optimality.specs.Plain.{line-lengths}
-use Rattle.optimality.specs.Plain as Plain
+use Rattle.optimality.specs.PlainSeries.{line-lengths}
+use Rattle.optimality.specs.PlainSeries as Plain
 use Rattle.optimality.specs.Machine.{plain-line}
 use Rattle.level.specs.Answer.{Answer, given}
 use Rattle.series.specs.Answer.{refill, on-success}

@@ -2,7 +2,7 @@
 ghost use mathlib.Core.Path.{_≡_};
 ghost use Prim.Native.Nat.{_<_};
 ghost use lib.ListN.{take};
-ghost use Rattle.optimality.specs.Plain.{segments};
+ghost use Rattle.optimality.specs.PlainSeries.{segments};
 ghost use Rattle.level.specs.Answer.{when-given};
 ghost use Rattle.series.specs.Optimality.{Meets, Only, Least};
 ghost use Rattle.layout.specs.Answer.{headed};

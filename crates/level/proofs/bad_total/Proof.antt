@@ -10,7 +10,7 @@ use mir.Syntax.{w64}
 use mir.Val.{SFits, toZ, ofZ}
 use mir.Facts.{toZ-ofZ}
 use Rattle.integers.specs.Bounds.{Atmost, cleaning, fit, clean}
-use Rattle.level.proofs.Valid.{below, above}
+use Rattle.level.proofs.LimitsLaws.{below, above}
 use Rattle.level.proofs.bad_total.Statement.{statement}
 use Rattle.level.proofs.bad_total.Tie as tie
 

@@ -1,7 +1,7 @@
 -- `level::difference` meets its contract: within the limits nothing wraps.
 use borrow.Author.Needs.{needs}
 use Rattle.integers.specs.Bounds.{cleaning, fit, clean}
-use Rattle.level.proofs.Valid.{short, small}
+use Rattle.level.proofs.LimitsLaws.{short, small}
 use Rattle.level.proofs.difference.Statement.{statement}
 use Rattle.level.proofs.difference.Tie as tie
 

@@ -13,8 +13,8 @@ use mir.Facts.{toZ-ofZ}
 use Rattle.integers.specs.Bounds.{fits-lt}
 use Rattle.level.specs.Limits.{Valid}
 use Rattle.level.specs.declared.Level.{Level}
-use Rattle.level.proofs.Valid.{small}
-use Rattle.level.proofs.Divide.{quotient-is}
+use Rattle.level.proofs.LimitsLaws.{small}
+use Rattle.level.proofs.Division.{quotient-is}
 use Rattle.level.proofs.quotient.Statement.{statement}
 use Rattle.level.proofs.quotient.Tie as tie
 

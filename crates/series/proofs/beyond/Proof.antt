@@ -2,7 +2,7 @@
 use borrow.Author.Needs.{needs}
 use mathlib.Core.Path.{sym}
 use mir.Facts.{toZ-ofZ}
-use Rattle.level.proofs.Valid.{below, above}
+use Rattle.level.proofs.LimitsLaws.{below, above}
 use Rattle.series.proofs.beyond.Statement.{statement}
 use Rattle.series.proofs.beyond.Tie as tie
 

@@ -12,7 +12,8 @@ use native.Mathlib.Omega.{arith}
 use Prim.Native.Nat.{ℕ, suc, _-_}
 use lib.ListN.{length, getD, drop}
 use lib.IntN.{pos}
-use Rattle.series.specs.Search.{found, first-from, first, is-none}
+use Rattle.optimality.specs.Search.{found}
+use Rattle.series.specs.Search.{first-from, first, is-none}
 use Rattle.series.specs.Limits.{bad-sample}
 use Rattle.series.proofs.SearchLaws.{next, past}
 use Rattle.series.proofs.none_beyond.Statement.{statement}

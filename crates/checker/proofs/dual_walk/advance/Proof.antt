@@ -8,7 +8,7 @@ use mir.Syntax.{w32, w64}
 use mir.Val.{toZ, ofZ}
 use Rattle.integers.specs.Laws.{one-*ℤ}
 use Rattle.integers.specs.Bounds.{Upto, Atmost, cleaning, fit, clean}
-use Rattle.level.proofs.Valid.{short, small}
+use Rattle.level.proofs.LimitsLaws.{short, small}
 use Rattle.checker.proofs.dual_walk.advance.Statement.{statement}
 use Rattle.checker.proofs.dual_walk.advance.Tie as tie
 

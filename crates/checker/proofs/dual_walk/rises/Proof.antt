@@ -9,7 +9,7 @@ use Rattle.integers.specs.Bounds.{cleaning, fit, clean}
 use Rattle.level.specs.Limits.{Valid}
 use Rattle.level.specs.Order.{cross}
 use Rattle.level.specs.declared.Level.{Level}
-use Rattle.level.proofs.Valid.{short, small}
+use Rattle.level.proofs.LimitsLaws.{short, small}
 use Rattle.checker.proofs.dual_walk.rises.Statement.{statement}
 use Rattle.checker.proofs.dual_walk.rises.Tie as tie
 

@@ -8,8 +8,8 @@ use mathlib.Core.List.{List}
 use lib.IntN.{ℤ}
 use lib.ListN.{length, length-set}
 use Rattle.optimality.specs.Machine.{on}
-use Rattle.optimality.specs.Tests.{test3}
-use Rattle.optimality.specs.Sound.{left}
+use Rattle.optimality.specs.StepTests.{test3}
+use Rattle.optimality.specs.MachineLaws.{left}
 use Rattle.denoise.specs.Run.{Emits, Stops, Advanced, dataOf, stateOf}
 use Rattle.denoise.proofs.RunSteps.{Goes, goes-on, at-origin, restarts, known, step-on}
 use Rattle.denoise.proofs.DrawLoop.{Kept, kept-first, kept-turn, kept-on, count-end, lengths-end, totals-end}

@@ -4,7 +4,7 @@ use native.Mathlib.Omega.{arith}
 use lib.IntN.{pos}
 use mir.Syntax.{w64}
 use mir.Val.{toZ, ofZ}
-use Rattle.optimality.specs.Limits.{sample-small}
+use Rattle.optimality.specs.SmallNumbers.{sample-small}
 use Rattle.integers.specs.Bounds.{cleaning, clean}
 use Rattle.denoise.specs.Run.{tubeOf}
 use Rattle.denoise.proofs.RunBounds.{most}

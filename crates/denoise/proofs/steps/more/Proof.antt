@@ -1,11 +1,11 @@
 -- `denoise::steps::more` meets its contract.
 use mathlib.Core.Path.{_≡_, refl, sym, ap, _∙_}
 use mathlib.Core.Logic.{⊎-elim}
-use mathlib.Core.Bool.{Bool, true, false, not, true≢false}
+use mathlib.Core.Bool.{Bool, true, false, not, true≢false, cond}
 use mathlib.Core.List.{List}
 use Prim.Native.Nat.{ℕ}
 use lib.IntN.{ℤ}
-use Rattle.optimality.specs.Machine.{State, pick}
+use Rattle.optimality.specs.Machine.{State}
 use Rattle.denoise.specs.Run.{stateOf, belowOf, tubeOf, moreOf}
 use Rattle.denoise.specs.declared.steps.Tube.{Tube}
 use Rattle.denoise.specs.declared.steps.Slope.{Slope}
@@ -15,26 +15,26 @@ use Rattle.denoise.proofs.steps.more.Statement.{statement}
 use Rattle.denoise.proofs.steps.more.Tie as tie
 
 module _ {A : Type 0} where
-  touched : (b : Bool) (kept new : A) → not b ≡ true → new ≡ pick b kept new
+  touched : (b : Bool) (kept new : A) → not b ≡ true → new ≡ cond b kept new
   touched true kept new e = absurd (true≢false (sym e))
   touched false kept new e = refl
 
-  stays : (b : Bool) (kept new : A) → not b ≡ false → kept ≡ pick b kept new
+  stays : (b : Bool) (kept new : A) → not b ≡ false → kept ≡ cond b kept new
   stays true kept new e = refl
   stays false kept new e = absurd (true≢false e)
 
 picked : (i : ℕ) (at min max low high : Slope) (b c : Bool) →
-    stateOf (record { i = i; at = at; min = pick b min low; max = pick c max high }) ≡ record {
+    stateOf (record { i = i; at = at; min = cond b min low; max = cond c max high }) ≡ record {
       i = i;
       k = at .k;
       U = at .total;
       n = at .n;
-      tmin = pick b (min .total) (low .total);
-      nmin = pick b (min .n) (low .n);
-      kmin = pick b (min .k) (low .k);
-      tmax = pick c (max .total) (high .total);
-      nmax = pick c (max .n) (high .n);
-      kmax = pick c (max .k) (high .k);
+      tmin = cond b (min .total) (low .total);
+      nmin = cond b (min .n) (low .n);
+      kmin = cond b (min .k) (low .k);
+      tmax = cond c (max .total) (high .total);
+      nmax = cond c (max .n) (high .n);
+      kmax = cond c (max .k) (high .k);
     }
 picked i at min max low high true true = refl
 picked i at min max low high true false = refl
@@ -43,10 +43,10 @@ picked i at min max low high false false = refl
 
 -- a run at the tube t with its lower bound, then with its upper one, kept or touched anew
 abbrev lower : Run → Tube → Bool → Run
-lower r t b = record { i = r .i; at = t .at; min = pick b (r .min) (t .low); max = r .max }
+lower r t b = record { i = r .i; at = t .at; min = cond b (r .min) (t .low); max = r .max }
 
 abbrev upper : Run → Tube → Bool → Run
-upper q t c = record { i = q .i; at = q .at; min = q .min; max = pick c (q .max) (t .high) }
+upper q t c = record { i = q .i; at = q .at; min = q .min; max = cond c (q .max) (t .high) }
 
 told : (ys : List ℤ) (smoothing : ℕ) (r : Run) (t : Tube) (b c : Bool) →
     t ≡ tubeOf ys smoothing (r .at) → b ≡ belowOf (t .low) (r .min) → c ≡ belowOf (r .max) (t .high) →
@@ -86,7 +86,7 @@ raised : (d : tie.After-below2) (m : Slope) →
     let q = d .before .if1 .q in
     let w = d .before .before .before .before .before .before in
     let s = w .before .before .before .before in
-    m ≡ pick (d .below2 .result) (q .max) (w .ahead .result .high) →
+    m ≡ cond (d .below2 .result) (q .max) (w .ahead .result .high) →
     stateOf (record { i = q .i; at = q .at; min = q .min; max = m }) ≡ moreOf (s .args .samples .now) (s .args .smoothing) (s .args .r)
 raised d m e =
     let q = d .before .if1 .q in

@@ -9,8 +9,8 @@ use lib.IntN.{ℤ}
 use lib.ListN.{length}
 use lib.Seq.{length-sets}
 use Rattle.optimality.specs.Machine.{on}
-use Rattle.optimality.specs.Tests.{test3}
-use Rattle.optimality.specs.Sound.{left}
+use Rattle.optimality.specs.StepTests.{test3}
+use Rattle.optimality.specs.MachineLaws.{left}
 use Rattle.denoise.specs.Run.{Emits, Stops, Advanced, dataOf, stateOf}
 use Rattle.denoise.proofs.RunSteps.{Goes, goes-on, at-origin, restarts, known, step-on}
 use Rattle.denoise.proofs.TraceLoop.{Traced, traced-first, traced-turn, traced-on, traced-end, turn-fills, emit-fills, stop-fills}

@@ -7,7 +7,7 @@ use mir.Val.{SFits}
 use mir.Facts.{toZ-ofZ}
 use Rattle.level.specs.Limits.{bad-length, bad-total}
 use Rattle.level.specs.Order.{signOf}
-use Rattle.level.proofs.Valid.{valid}
+use Rattle.level.proofs.LimitsLaws.{valid}
 use Rattle.level.proofs.Level.compare.Statement.{statement}
 use Rattle.level.proofs.Level.compare.Tie as tie
 

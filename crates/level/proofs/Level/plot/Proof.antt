@@ -5,8 +5,8 @@ use mathlib.Core.Bool.{false}
 use Rattle.level.specs.Answer.{given}
 use Rattle.level.specs.Limits.{bad-length, bad-total}
 use Rattle.level.specs.Plot.{NearestF64}
-use Rattle.level.proofs.Valid.{valid}
-use Rattle.level.proofs.Nearest.{nearest-f64}
+use Rattle.level.proofs.LimitsLaws.{valid}
+use Rattle.level.proofs.NearestF64.{nearest-f64}
 use Rattle.level.proofs.Level.plot.Statement.{statement}
 use Rattle.level.proofs.Level.plot.Tie as tie
 

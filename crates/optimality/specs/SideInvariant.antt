@@ -1,24 +1,22 @@
 -- The machine's invariant, seen from one side of the tube. The tube is told in sums: W j is the weight of the first j minutes, Z j what the
--- line adds up to over them; Z stays between the two sides and ends at e. A level is the slope of Z. A `Dir` holds one side, the other, and
+-- line adds up to over them; Z stays between the two sides and ends at e. A level is the slope of Z. A `View` holds one side, the other, and
 -- the order of the levels seen from there: from the roof, its opposite. So each lemma is proved once for both bounds.
 use mathlib.Core.Path.{_≡_, refl, sym, subst, ap₂}
 use mathlib.Core.List.{[], _∷_}
 use mathlib.Core.Logic.{_⊎_, inl, inr, ⊎-elim}
 use native.Mathlib.Nat.{eq-or-lt-of-le}
 use native.Mathlib.Omega.{arith}
-use native.Mathlib.Decide.{decLe}
 use Prim.Native.Nat.{ℕ, suc, _<_, _≤_}
 use lib.IntN.{ℤ, pos, _-ℤ_}
-use Rattle.integers.specs.Order.{_⋖_, gap<}
+use Rattle.integers.specs.Order.{_⋖_, le-or-lt, gap<}
 use Rattle.integers.specs.Ring.{ring, reify}
-use Rattle.optimality.specs.Machine.{Fraction}
-use Rattle.optimality.specs.Rates.{fraction, _⊟_, Laws}
+use Rattle.optimality.specs.Fractions.{Fraction, fraction, _⊟_, OrderLaws}
 
 -- the level that leads from minute i, where Z is z, to f at minute j
 abbrev pub slope : (W f : ℕ → ℤ) → ℕ → ℤ → ℕ → Fraction
 slope W f i z j = fraction (f j -ℤ z) (W j -ℤ W i)
 
-pub record Dir : Type 1 where
+pub record View : Type 1 where
   pub N : ℕ
   pub W : ℕ → ℤ
   pub e : ℤ
@@ -27,11 +25,11 @@ pub record Dir : Type 1 where
   pub le : Fraction → Fraction → Type 0
   pub lt : Fraction → Fraction → Type 0
 
-abbrev pub flip : Dir → Dir
+abbrev pub flip : View → View
 flip δ = record { N = δ .N; W = δ .W; e = δ .e; near = δ .far; far = δ .near; le = λ r s. δ .le s r; lt = λ r s. δ .lt s r }
 
--- The words below are those of the floor: "under" is `lt` or `le` of the direction.
-module _ (δ : Dir) where
+-- The words below are those of the floor: "under" is `lt` or `le` of the view.
+module _ (δ : View) where
   abbrev pub near-at : ℕ → ℤ → ℕ → Fraction
   near-at i z j = slope (δ .W) (δ .near) i z j
 
@@ -42,8 +40,8 @@ module _ (δ : Dir) where
   end-at i z = slope (δ .W) (λ _. δ .e) i z (δ .N)
 
   -- the tube is not inside out, and its end lies in it
-  pub record World : Type 0 where
-    pub laws : Laws (δ .le) (δ .lt)
+  pub record OpenTube : Type 0 where
+    pub laws : OrderLaws (δ .le) (δ .lt)
     pub grow : (i j : ℕ) → i < j → j ≤ δ .N → δ .W i ⋖ δ .W j
     pub tube : (i : ℕ) (z : ℤ) (j : ℕ) → i < j → j ≤ δ .N → δ .le (near-at i z j) (far-at i z j)
     pub goal : (i : ℕ) (z : ℤ) → i < δ .N → δ .le (near-at i z (δ .N)) (end-at i z)
@@ -60,8 +58,8 @@ module _ (δ : Dir) where
     pub free : (j : ℕ) → i < j → j ≤ δ .N → δ .lt v (far-at i z j)
     pub last : δ .lt v (end-at i z)
 
-  -- of a bound v: up to k the near side is not above it
-  pub record Half (i k : ℕ) (z : ℤ) (v : Fraction) (κ : ℕ) : Type 0 where
+  -- v is the bound at this side: up to k the near side is not above it
+  pub record IsBound (i k : ℕ) (z : ℤ) (v : Fraction) (κ : ℕ) : Type 0 where
     pub under : (j : ℕ) → i < j → j ≤ k → δ .le (near-at i z j) v
     pub mode : Touch i k z v κ ⊎ Kept i z v
 
@@ -94,15 +92,12 @@ rebase W f i κ j z c = ap₂ fraction (diff-z (f j) c z) (diff-z (W j) (W κ) (
 last-or : {j k : ℕ} → j ≤ suc k → (j ≡ suc k) ⊎ (j ≤ k)
 last-or {j} {k} h = ⊎-elim inl (λ (l : j < suc k). inr (omega arith)) (eq-or-lt-of-le h)
 
-le-or-lt : (m n : ℕ) → (m ≤ n) ⊎ (n < m)
-le-or-lt m n = elim (decLe m n) [ yes h ↦ inl h | no h ↦ inr (omega arith) ]
-
 -- what holds at suc k and up to k holds up to suc k
 one-more : {k : ℕ} (P : ℕ → Type 0) (j : ℕ) → P (suc k) → (j ≤ k → P j) → j ≤ suc k → P j
 one-more {k} P j at before h = ⊎-elim (λ (q : j ≡ suc k). subst P (sym q) at) before (last-or h)
 
-module _ {δ : Dir} (w : World δ) where
-  open World w using (laws)
+module _ {δ : View} (w : OpenTube δ) where
+  open OpenTube w using (laws)
 
   pub wider : (i j : ℕ) → i < j → j ≤ δ .N → pos 0 ⋖ δ .W j -ℤ δ .W i
   wider i j h k = gap< (w .grow i j h k)
@@ -114,14 +109,16 @@ module _ {δ : Dir} (w : World δ) where
   rest i κ j b h = subst (λ t. pos 0 ⋖ t) (sym (diff-z (δ .W j) (δ .W κ) (δ .W i))) (wider κ j b h)
 
   -- what is under v still is, seen from a point that is on v or above it
-  move-lt : (f : ℕ → ℤ) (i κ j : ℕ) (z c : ℤ) (v : Fraction) → κ < j → j ≤ δ .N → δ .lt (slope (δ .W) f i z j) v → δ .le v (fraction (c -ℤ z) (δ .W κ -ℤ δ .W i)) → δ .lt (slope (δ .W) f κ c j) v
+  move-lt : (f : ℕ → ℤ) (i κ j : ℕ) (z c : ℤ) (v : Fraction) → κ < j → j ≤ δ .N → δ .lt (slope (δ .W) f i z j) v →
+      δ .le v (fraction (c -ℤ z) (δ .W κ -ℤ δ .W i)) → δ .lt (slope (δ .W) f κ c j) v
   move-lt f i κ j z c v b m h k = subst (λ r. δ .lt r v) (rebase (δ .W) f i κ j z c) (laws .sub-lt h k (rest i κ j b m))
 
-  move-le : (f : ℕ → ℤ) (i κ j : ℕ) (z c : ℤ) (v : Fraction) → κ < j → j ≤ δ .N → δ .le (slope (δ .W) f i z j) v → δ .le v (fraction (c -ℤ z) (δ .W κ -ℤ δ .W i)) → δ .le (slope (δ .W) f κ c j) v
+  move-le : (f : ℕ → ℤ) (i κ j : ℕ) (z c : ℤ) (v : Fraction) → κ < j → j ≤ δ .N → δ .le (slope (δ .W) f i z j) v →
+      δ .le v (fraction (c -ℤ z) (δ .W κ -ℤ δ .W i)) → δ .le (slope (δ .W) f κ c j) v
   move-le f i κ j z c v b m h k = subst (λ r. δ .le r v) (rebase (δ .W) f i κ j z c) (laws .sub-le h k (rest i κ j b m))
 
   -- ---- step 1
-  pub fresh : (i : ℕ) (z : ℤ) → i < δ .N → Half δ i (suc i) z (near-at δ i z (suc i)) (suc i)
+  pub fresh : (i : ℕ) (z : ℤ) → i < δ .N → IsBound δ i (suc i) z (near-at δ i z (suc i)) (suc i)
   fresh i z h =
       record {
         under = λ j a b. one-more (λ m. δ .le (near-at δ i z m) (near-at δ i z (suc i))) j (self i z (suc i) (omega arith) h) (λ b′. absurd (omega arith)) b;
@@ -130,29 +127,37 @@ module _ {δ : Dir} (w : World δ) where
 
   module _ {i k : ℕ} {z : ℤ} {v : Fraction} {κ : ℕ} where
     -- ---- steps 5 and 6: the bound is kept or touched anew
-    pub keep : Half δ i k z v κ → δ .lt (near-at δ i z (suc k)) v → Half δ i (suc k) z v κ
+    pub keep : IsBound δ i k z v κ → δ .lt (near-at δ i z (suc k)) v → IsBound δ i (suc k) z v κ
     keep H t =
         record {
           under = λ j a. one-more (λ m. δ .le (near-at δ i z m) v) j (laws .weak t) (H .under j a);
           mode =
               ⊎-elim
-              (λ (T : Touch δ i k z v κ). inl (record { from = T .from; upto = omega (arith, T .upto); is = T .is; beyond = λ j a. one-more (λ m. δ .lt (near-at δ i z m) v) j t (T .beyond j a) }))
+              (λ (T : Touch δ i k z v κ). inl
+              (record {
+                from = T .from;
+                upto = omega (arith, T .upto);
+                is = T .is;
+                beyond = λ j a. one-more (λ m. δ .lt (near-at δ i z m) v) j t (T .beyond j a);
+              }))
               inr
               (H .mode);
         }
 
-    pub renew : Half δ i k z v κ → i ≤ k → suc k ≤ δ .N → δ .le v (near-at δ i z (suc k)) → Half δ i (suc k) z (near-at δ i z (suc k)) (suc k)
+    pub renew : IsBound δ i k z v κ → i ≤ k → suc k ≤ δ .N → δ .le v (near-at δ i z (suc k)) → IsBound δ i (suc k) z (near-at δ i z (suc k)) (suc k)
     renew H ik kn t =
         record {
-          under = λ j a. one-more (λ m. δ .le (near-at δ i z m) (near-at δ i z (suc k))) j (self i z (suc k) (omega arith) kn) (λ b. laws .lele (H .under j a b) t);
+          under =
+              λ j a. one-more (λ m. δ .le (near-at δ i z m) (near-at δ i z (suc k))) j (self i z (suc k) (omega arith) kn)
+              (λ b. laws .lele (H .under j a b) t);
           mode = inl (record { from = omega arith; upto = omega arith; is = refl; beyond = λ j a b. absurd (omega arith) });
         }
 
     -- ---- the tests 3 and 8: a bound that breaks is touched
-    pub touch3 : Half δ i k z v κ → i ≤ k → suc k ≤ δ .N → δ .lt (far-at δ i z (suc k)) v → Touch δ i k z v κ
+    pub touch3 : IsBound δ i k z v κ → i ≤ k → suc k ≤ δ .N → δ .lt (far-at δ i z (suc k)) v → Touch δ i k z v κ
     touch3 H ik kn t = ⊎-elim (λ T. T) (λ (B : Kept δ i z v). absurd (laws .irr (laws .ltle (B .free (suc k) (omega arith) kn) (laws .weak t)))) (H .mode)
 
-    pub touch8 : Half δ i k z v κ → δ .lt (end-at δ i z) v → Touch δ i k z v κ
+    pub touch8 : IsBound δ i k z v κ → δ .lt (end-at δ i z) v → Touch δ i k z v κ
     touch8 H t = ⊎-elim (λ T. T) (λ (B : Kept δ i z v). absurd (laws .irr (laws .ltle (B .last) (laws .weak t)))) (H .mode)
 
     touched : Touch δ i k z v κ → k ≤ δ .N → δ .le v (near-at δ i z κ)
@@ -167,7 +172,9 @@ module _ {δ : Dir} (w : World δ) where
         (record {
           from = omega (arith, T .upto);
           upto = kn;
-          all = λ j a b. move-lt (δ .near) i κ j z (δ .near κ) v a (omega arith) (one-more (λ m. δ .lt (near-at δ i z m) v) j (laws .lelt (w .tube i z (suc k) (omega (arith, T .from, T .upto)) kn) t) (T .beyond j a) b) o;
+          all =
+              λ j a b. move-lt (δ .near) i κ j z (δ .near κ) v a (omega arith)
+              (one-more (λ m. δ .lt (near-at δ i z m) v) j (laws .lelt (w .tube i z (suc k) (omega (arith, T .from, T .upto)) kn) t) (T .beyond j a) b) o;
           there = move-lt (δ .far) i κ (suc k) z (δ .near κ) v (omega (arith, T .upto)) kn t o;
         })
 
@@ -182,7 +189,9 @@ module _ {δ : Dir} (w : World δ) where
 
   -- from the other bound at step 4,
   pub next-far4 : {i k : ℕ} {z : ℤ} {v′ p : Fraction} → Ahead δ i z p → i ≤ k → suc k ≤ δ .N → Over δ i k z v′ → δ .lt v′ (near-at δ i z (suc k)) → δ .lt v′ p
-  next-far4 {i} {k} (soon h s) ik kn o t = ⊎-elim (λ (l : h ≤ k). laws .lelt (o h (s .from) l) (s .there)) (λ (l : k < h). laws .ltle t (laws .weak (s .all (suc k) (omega arith) l))) (le-or-lt h k)
+  next-far4 {i} {k} (soon h s) ik kn o t =
+      ⊎-elim (λ (l : h ≤ k). laws .lelt (o h (s .from) l) (s .there)) (λ (l : k < h). laws .ltle t (laws .weak (s .all (suc k) (omega arith) l)))
+      (le-or-lt h k)
   next-far4 {i} {k} (last s) ik kn o t = laws .ltle t (laws .weak (s .all (suc k) (omega arith) kn))
 
   module _ {i : ℕ} {z : ℤ} where
@@ -201,21 +210,29 @@ module _ {δ : Dir} (w : World δ) where
       pub before-end : κ < δ .N
       before-end =
           ⊎-elim
-          (λ (q : κ ≡ δ .N). absurd (laws .irr (laws .lelt (subst (λ m. δ .le v (near-at δ i z m)) q (touched T (omega arith))) (laws .lelt (w .goal i z (omega (arith, T .from))) t))))
+          (λ (q : κ ≡ δ .N). absurd
+          (laws .irr
+          (laws .lelt (subst (λ m. δ .le v (near-at δ i z m)) q (touched T (omega arith))) (laws .lelt (w .goal i z (omega (arith, T .from))) t))))
           (λ l. l)
           (eq-or-lt-of-le (T .upto))
 
       pub ahead8 : Last δ κ (δ .near κ) v
       ahead8 =
           let o = touched T (omega arith) in
-          record { all = λ j a b. move-lt (δ .near) i κ j z (δ .near κ) v a b (T .beyond j a b) o; there = move-lt (λ _. δ .e) i κ (δ .N) z (δ .near κ) v before-end (omega arith) t o }
+          record {
+            all = λ j a b. move-lt (δ .near) i κ j z (δ .near κ) v a b (T .beyond j a b) o;
+            there = move-lt (λ _. δ .e) i κ (δ .N) z (δ .near κ) v before-end (omega arith) t o;
+          }
 
 -- step 8 keeps the other bound
-pub kept : {δ : Dir} (w : World δ) (w′ : World (flip δ)) {i : ℕ} {z : ℤ} {v v′ : Fraction} {κ : ℕ} (κ′ : ℕ) → Touch δ i (δ .N) z v κ → δ .lt (end-at δ i z) v → δ .le v v′ → Over δ i (δ .N) z v′ → Half (flip δ) κ (suc κ) (δ .near κ) v′ κ′
+pub kept : {δ : View} (w : OpenTube δ) (w′ : OpenTube (flip δ)) {i : ℕ} {z : ℤ} {v v′ : Fraction} {κ : ℕ} (κ′ : ℕ) → Touch δ i (δ .N) z v κ →
+    δ .lt (end-at δ i z) v → δ .le v v′ → Over δ i (δ .N) z v′ → IsBound (flip δ) κ (suc κ) (δ .near κ) v′ κ′
 kept {δ} w w′ {i} {z} {v} {v′} {κ} κ′ T t c o =
     let a = ahead8 w T t in
     let l = before-end w T t in
     record {
-      under = λ j h k. move-le w′ (δ .far) i κ j z (δ .near κ) v′ h (omega arith) (o j (omega (arith, T .from)) (omega arith)) (subst (λ r. δ .le r v′) (T .is) c);
+      under =
+          λ j h k. move-le w′ (δ .far) i κ j z (δ .near κ) v′ h (omega arith) (o j (omega (arith, T .from)) (omega arith))
+          (subst (λ r. δ .le r v′) (T .is) c);
       mode = inr (record { free = λ j h k. w .laws .ltle (a .all j h k) c; last = w .laws .ltle (a .there) c });
     }

@@ -10,10 +10,10 @@ use lib.IntN.{ℤ, pos, _-ℤ_}
 use Rattle.integers.specs.Order.{_⋖_}
 use Rattle.optimality.specs.Segments.{Segment}
 use Rattle.optimality.specs.Machine.{Increments, State, Out, on, emit, stop, follow, begin, inside, final, step, run, line}
-use Rattle.optimality.specs.Tube.{Right, R, back-z, start-is}
-use Rattle.optimality.specs.Path.{Came, first, Meets, Path}
-use Rattle.optimality.specs.Tests.{U′, n′, test3, test4, test8, test9}
-use Rattle.optimality.specs.Steps.{Inv, Sits, Good, begun, inside-good, final-good, step-good, n-positive}
+use Rattle.optimality.specs.Tube.{ValidIncrements, R, back-z, start-is}
+use Rattle.optimality.specs.TubePath.{Came, first, Meets, Path}
+use Rattle.optimality.specs.StepTests.{U′, n′, test3, test4, test8, test9}
+use Rattle.optimality.specs.StepInvariant.{Inv, Sits, Good, begun, inside-good, final-good, step-good, n-positive}
 
 module _ (d : Increments) where
   open Increments d using (N)
@@ -63,7 +63,7 @@ closed-less N i k i′ k′ h l = let m : suc (N - i′) ≤ N - i = omega arith
 start-less : (N : ℕ) → (N - 0) * suc N + (N - 1) < suc (N * suc N + N)
 start-less N = let h : N - 0 ≤ N = omega arith in omega (arith, mul-le-mul-right (suc N) h)
 
-module _ (d : Increments) (r : Right d) where
+module _ (d : Increments) (r : ValidIncrements d) where
   open Increments d using (N)
 
   pub facts : {s : State} → Sound d s → Facts d s
@@ -80,10 +80,21 @@ module _ (d : Increments) (r : Right d) where
 
   -- ---- a step from a sound state
   good-after : (c : Came) (z : ℤ) (s : State) (o : Out) → Good d c z s o → After d s o
-  good-after c z s (on s′) G = record { sound = record { z = z; inv = G .inv }; same = G .same; one = G .one; less = onward-less N (s .i) (s .k) (s′ .i) (s′ .k) (G .same) (G .one) (G .inv .upto) }
+  good-after c z s (on s′) G = record {
+    sound = record { z = z; inv = G .inv };
+    same = G .same;
+    one = G .one;
+    less = onward-less N (s .i) (s .k) (s′ .i) (s′ .k) (G .same) (G .one) (G .inv .upto);
+  }
   good-after c z s (emit g s′) G =
       let h : s′ .i < N = omega (arith, G .inv .from, G .inv .upto) in
-      record { sound = record { z = G .at; inv = G .inv }; further = G .further; short = h; long = G .long; less = closed-less N (s .i) (s .k) (s′ .i) (s′ .k) (G .further) h }
+      record {
+        sound = record { z = G .at; inv = G .inv };
+        further = G .further;
+        short = h;
+        long = G .long;
+        less = closed-less N (s .i) (s .k) (s′ .i) (s′ .k) (G .further) h;
+      }
   good-after c z s (stop g) G = G .0
 
   module _ {s : State} (S : Sound d s) where
@@ -98,7 +109,8 @@ module _ (d : Increments) (r : Right d) where
     final-after h t8 t9 e8 e9 = good-after first (S .z) s (final d s t8 t9) (final-good d r first (S .z) s (S .inv) tt h t8 t9 e8 e9)
 
   -- ---- fuel: as much as is left, and one
-  follow-same : (s : State) (f g : State → List Segment) → ((s′ : State) → Sound d s′ → left d s′ < left d s → f s′ ≡ g s′) → (o : Out) → After d s o → follow f o ≡ follow g o
+  follow-same : (s : State) (f g : State → List Segment) → ((s′ : State) → Sound d s′ → left d s′ < left d s → f s′ ≡ g s′) → (o : Out) → After d s o →
+      follow f o ≡ follow g o
   follow-same s f g h (on s′) A = h s′ (A .sound) (A .less)
   follow-same s f g h (emit x s′) A = ap (λ l. x ∷ l) (h s′ (A .sound) (A .less))
   follow-same s f g h (stop x) A = refl
@@ -107,18 +119,21 @@ module _ (d : Increments) (r : Right d) where
   unfolding run
   run-enough zero g S h k = absurd (omega arith)
   run-enough (suc f) zero S h k = absurd (omega arith)
-  run-enough (suc f) (suc g) {s} S h k = follow-same s (λ s′. run d f s′) (λ s′. run d g s′) (λ s′ S′ l. run-enough f g S′ (omega arith) (omega arith)) (step d s) (step-after S)
+  run-enough (suc f) (suc g) {s} S h k =
+      follow-same s (λ s′. run d f s′) (λ s′. run d g s′) (λ s′ S′ l. run-enough f g S′ (omega arith) (omega arith)) (step d s) (step-after S)
 
 -- the segments that come from a state on
 unfoldable pub lines : (d : Increments) → State → List Segment
 lines d s = run d (suc (left d s)) s
 
-module _ (d : Increments) (r : Right d) where
+module _ (d : Increments) (r : ValidIncrements d) where
   open Increments d using (N, a)
 
   pub lines-step : {s : State} → Sound d s → lines d s ≡ follow (lines d) (step d s)
   unfolding run lines
-  lines-step {s} S = follow-same d r s (λ s′. run d (left d s) s′) (lines d) (λ s′ S′ l. run-enough d r (left d s) (suc (left d s′)) S′ l (omega arith)) (step d s) (step-after d r S)
+  lines-step {s} S =
+      follow-same d r s (λ s′. run d (left d s) s′) (lines d) (λ s′ S′ l. run-enough d r (left d s) (suc (left d s′)) S′ l (omega arith)) (step d s)
+      (step-after d r S)
 
   pub line-lines : line d ≡ lines d (begin d 0 a)
   unfolding line lines
@@ -128,7 +143,8 @@ module _ (d : Increments) (r : Right d) where
   abbrev Leads : (State → List Segment) → ℕ → Type 0
   Leads f n = (c : Came) (z : ℤ) (s : State) → Inv d z s → Sits d c (s .i) z → left d s < n → Meets d c (s .i) z (f s)
 
-  follow-meets : (f : State → List Segment) (c : Came) (z : ℤ) (s : State) → Leads f (left d s) → Sits d c (s .i) z → (o : Out) → Good d c z s o → Meets d c (s .i) z (follow f o)
+  follow-meets : (f : State → List Segment) (c : Came) (z : ℤ) (s : State) → Leads f (left d s) → Sits d c (s .i) z → (o : Out) → Good d c z s o →
+      Meets d c (s .i) z (follow f o)
   follow-meets f c z s h S (on s′) G = rw (← (G .same)) (h c z s′ (G .inv) (rw (G .same) S) (good-after d r c z s (on s′) G .less))
   follow-meets f c z s h S (emit g s′) G = G .back (f s′) (h (G .came) (G .at) s′ (G .inv) (G .sits) (good-after d r c z s (emit g s′) G .less))
   follow-meets f c z s h S (stop g) G = G .1
@@ -136,7 +152,8 @@ module _ (d : Increments) (r : Right d) where
   run-meets : (f : ℕ) → Leads (run d f) f
   unfolding run
   run-meets zero c z s I S h = absurd (omega arith)
-  run-meets (suc f) c z s I S h = follow-meets (λ s′. run d f s′) c z s (λ c′ z′ s′ I′ S′ l. run-meets f c′ z′ s′ I′ S′ (omega arith)) S (step d s) (step-good d r c z s I S)
+  run-meets (suc f) c z s I S h =
+      follow-meets (λ s′. run d f s′) c z s (λ c′ z′ s′ I′ S′ l. run-meets f c′ z′ s′ I′ S′ (omega arith)) S (step d s) (step-good d r c z s I S)
 
   pub line-path : Path d 0 (pos 0) (line d)
   unfolding line

@@ -68,11 +68,23 @@ first : (Q L b U : ℤ) (i : ℕ) (ms : List Minute) (xs : List ℤ) (k : ℕ) �
 unfolding Breaks dual
 first Q L b U i [] xs k h = absurd h
 first Q L b U i (m ∷ ms) [] k h = absurd h
-first Q L b U i (m ∷ ms) (x ∷ xs) k (inl h) = record { index = 0; place = omega arith; within = omega arith; before = λ j l. absurd (omega arith); broken = h .0 }
+first Q L b U i (m ∷ ms) (x ∷ xs) k (inl h) = record {
+  index = 0;
+  place = omega arith;
+  within = omega arith;
+  before = λ j l. absurd (omega arith);
+  broken = h .0;
+}
 first Q L b U i (m ∷ ms) (x ∷ xs) k (inr h) = go (first Q L b (after Q U m x) (suc i) ms xs k (h .1))
   where
     go : First Q L b (after Q U m x) (suc i) ms xs k → First Q L b U i (m ∷ ms) (x ∷ xs) k
-    go f = record { index = suc (f .index); place = omega arith; within = omega arith; before = elim [ zero ↦ λ l. h .0 | suc j ↦ λ l. f .before j (omega arith) ]; broken = f .broken }
+    go f = record {
+      index = suc (f .index);
+      place = omega arith;
+      within = omega arith;
+      before = elim [ zero ↦ λ l. h .0 | suc j ↦ λ l. f .before j (omega arith) ];
+      broken = f .broken;
+    }
 
 -- ---- it is what Holds says of the minute k + 1
 module _ (Q L a b : ℤ) (ms : List Minute) (xs : List ℤ) (e : length xs ≡ length ms) where
@@ -82,7 +94,10 @@ module _ (Q L a b : ℤ) (ms : List Minute) (xs : List ℤ) (e : length xs ≡ l
   holds : (k : ℕ) → k < length ms → Asked Q L b (Q *ℤ a) ms xs k ↔ Holds Q L a b ms xs (suc k)
   unfolding Turns
   holds k l = (
-    λ h. record { inner = λ n. rw (from-1 k, from-1 (suc k)) (rw (drop-cons xs (suc k) (pos 0) (omega arith)) at h); last = λ n. rw (drop-of-length-le xs {i = suc k} (omega arith)) at h },
+    λ h. record {
+      inner = λ n. rw (from-1 k, from-1 (suc k)) (rw (drop-cons xs (suc k) (pos 0) (omega arith)) at h);
+      last = λ n. rw (drop-of-length-le xs {i = suc k} (omega arith)) at h;
+    },
     λ h. ⊎-elim (λ (n : suc k ≡ length ms). rw (drop-of-length-le xs {i = suc k} (omega arith)) (h .last n))
         (λ (n : suc k < length ms). rw (drop-cons xs (suc k) (pos 0) (omega arith), ← from-1 k, ← from-1 (suc k)) (h .inner n))
         (eq-or-lt-of-le l),
@@ -102,6 +117,9 @@ module _ (Q L a b : ℤ) (ms : List Minute) (xs : List ℤ) (e : length xs ≡ l
 pub meets↔optimal : (Q L a b : ℤ) (ms : List Minute) (xs : List ℤ) → Meets Q L b (Q *ℤ a) ms xs ↔ Optimal Q L a b ms xs
 meets↔optimal Q L a b ms xs = (
   λ h. let e = meets-length Q L b (Q *ℤ a) ms xs h in
-      record { one-each = e; holds = elim [ zero ↦ λ n l. absurd (omega arith) | suc k ↦ λ n l. holds Q L a b ms xs e k l .0 (asked Q L b (Q *ℤ a) ms xs h k l) ] },
+      record {
+        one-each = e;
+        holds = elim [ zero ↦ λ n l. absurd (omega arith) | suc k ↦ λ n l. holds Q L a b ms xs e k l .0 (asked Q L b (Q *ℤ a) ms xs h k l) ];
+      },
   λ h. all-asked Q L b (Q *ℤ a) ms xs (h .one-each) (λ k l. holds Q L a b ms xs (h .one-each) k l .1 (h .holds (suc k) (omega arith) l)),
 )

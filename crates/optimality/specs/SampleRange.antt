@@ -17,8 +17,8 @@ use Rattle.optimality.specs.Conditions.{Optimal}
 use Rattle.optimality.specs.Segments.{Segment, Proper, IsLine, Scale, numerator, numerators}
 use Rattle.optimality.specs.Cost.{misfit, variation}
 use Rattle.optimality.specs.Scales.{common}
-use Rattle.optimality.specs.Verdict.{of-scale, optimal}
-use Rattle.optimality.specs.Optimum.{best, only}
+use Rattle.optimality.specs.FirstBreakLaws.{of-scale, optimal}
+use Rattle.optimality.specs.LeastCost.{best, only}
 
 -- no level is beyond ± B
 unfoldable pub Within : ℕ → List Segment → Type 0
@@ -79,7 +79,14 @@ unfolding clamp
 clamp-near C (pos m) (pos n) = omega (arith, away (pos m) (pos n), away (pos (min m C)) (pos (min n C)))
 clamp-near C (pos m) (negsuc n) = omega (arith, away (pos m) (negsuc n), away (pos (min m C)) (negℤ (pos (min (suc n) C))), opp (pos (min (suc n) C)))
 clamp-near C (negsuc m) (pos n) = omega (arith, away (negsuc m) (pos n), away (negℤ (pos (min (suc m) C))) (pos (min n C)), opp (pos (min (suc m) C)))
-clamp-near C (negsuc m) (negsuc n) = omega (arith, away (negsuc m) (negsuc n), away (negℤ (pos (min (suc m) C))) (negℤ (pos (min (suc n) C))), opp (pos (min (suc m) C)), opp (pos (min (suc n) C)))
+clamp-near C (negsuc m) (negsuc n) =
+    omega (
+      arith,
+      away (negsuc m) (negsuc n),
+      away (negℤ (pos (min (suc m) C))) (negℤ (pos (min (suc n) C))),
+      opp (pos (min (suc m) C)),
+      opp (pos (min (suc n) C)),
+    )
 
 clamp-keeps : (C : ℕ) (x : ℤ) → natAbs x ≤ C → clamp C x ≡ x
 unfolding clamp
@@ -100,7 +107,10 @@ fixed-run f (suc (suc n)) x r h e = fixed-run f (suc n) x r (omega arith) (cc)
 keeps-samples : (Q B : ℕ) (ms : List Minute) → Bounded B ms → Keeps (clamp (Q * B)) (pos Q) ms
 unfolding Keeps Bounded
 keeps-samples Q B [] h = tt
-keeps-samples Q B (m ∷ ms) h = (clamp-keeps (Q * B) (pos Q *ℤ m .sample) (rw (abs-* (pos Q) (m .sample)) (mul-le-mul-left Q (h .0))), keeps-samples Q B ms (h .1))
+keeps-samples Q B (m ∷ ms) h = (
+  clamp-keeps (Q * B) (pos Q *ℤ m .sample) (rw (abs-* (pos Q) (m .sample)) (mul-le-mul-left Q (h .0))),
+  keeps-samples Q B ms (h .1),
+)
 
 within : (Q B : ℕ) (ss : List Segment) → 0 < Q → Proper ss → Scale Q ss → map (clamp (Q * B)) (numerators Q ss) ≡ numerators Q ss → Within B ss
 unfolding Within Proper Scale numerators
@@ -119,4 +129,5 @@ pub in-range : (L : ℤ) (B : ℕ) (ms : List Minute) (ss : List Segment) → Po
 in-range L B ms ss p l b h =
     let c = common ms ss ss p (h .formed) (h .formed) in
     let o = optimal L (pos 0) (pos 0) ms ss l h (c .Q) (c .above) (c .one) in
-    within (c .Q) B ss (c .above) (h .formed .proper) (c .one) (kept (clamp (c .Q * B)) (clamp-near (c .Q * B)) (pos (c .Q)) L ms _ (0⩽pos (c .Q)) l p (keeps-samples (c .Q) B ms b) o)
+    within (c .Q) B ss (c .above) (h .formed .proper) (c .one)
+    (kept (clamp (c .Q * B)) (clamp-near (c .Q * B)) (pos (c .Q)) L ms _ (0⩽pos (c .Q)) l p (keeps-samples (c .Q) B ms b) o)

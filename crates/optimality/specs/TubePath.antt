@@ -1,5 +1,5 @@
 -- What the machine's segments have to be, told of Z (Tube.antt): they stay in the tube, and turn only where Z touches it: down at the floor,
--- up at the roof. Correct.antt reads conditions (6) and (7) off it.
+-- up at the roof. Correctness.antt reads conditions (6) and (7) off it.
 use mathlib.Core.Path.{_≡_, refl, sym, _∙_, ap, subst, subst₂}
 use mathlib.Core.List.{List, [], _∷_}
 use native.Mathlib.Omega.{arith}
@@ -9,10 +9,10 @@ use Rattle.integers.specs.Order.{_⋖_}
 use Rattle.integers.specs.Linear.{int, size}
 use Rattle.integers.specs.Ring.{ring, reify}
 use Rattle.optimality.specs.Segments.{Segment}
-use Rattle.optimality.specs.Machine.{Increments, Fraction, segment}
-use Rattle.optimality.specs.Rates.{fraction}
-use Rattle.optimality.specs.Half.{near-at}
-use Rattle.optimality.specs.Tube.{Side, floor, le, lt, W, R, away, dir}
+use Rattle.optimality.specs.Machine.{Increments, segment}
+use Rattle.optimality.specs.Fractions.{Fraction, fraction}
+use Rattle.optimality.specs.SideInvariant.{near-at}
+use Rattle.optimality.specs.Tube.{Side, floor, le, lt, W, R, away, view}
 
 -- how a segment was come to: it is the first, or the line left the level p where it touched a side
 pub data Came : Type 0 where
@@ -33,7 +33,7 @@ module _ (d : Increments) where
 
   -- from minute i, where Z is z, the level v stays in the tube up to minute m
   abbrev pub Inside : ℕ → ℕ → ℤ → Fraction → Type 0
-  Inside i m z v = (σ : Side) (j : ℕ) → i < j → j ≤ m → le σ (near-at (dir d σ) i z j) v
+  Inside i m z v = (σ : Side) (j : ℕ) → i < j → j ≤ m → le σ (near-at (view d σ) i z j) v
 
   pub record Piece (i m : ℕ) (z : ℤ) (g : Segment) : Type 0 where
     pub some : i < m
@@ -84,14 +84,19 @@ module _ (d : Increments) where
     pub turns : Turns d m c v l
     pub path : Path d m c l
 
-  link : (came : Came) (i m : ℕ) (z c : ℤ) (g : Segment) (l : List Segment) → m ≡ i + g .len → c ≡ z +ℤ g .total → pos (g .divisor) ≡ W d m -ℤ W d i → Closing came i m z c (level g) l → Meets came i z (g ∷ l)
+  link : (came : Came) (i m : ℕ) (z c : ℤ) (g : Segment) (l : List Segment) → m ≡ i + g .len → c ≡ z +ℤ g .total → pos (g .divisor) ≡ W d m -ℤ W d i →
+      Closing came i m z c (level g) l → Meets came i z (g ∷ l)
   unfolding Path
   link came i m z c g l e f w C = record {
-    path = subst₂ (λ m c. Piece d i m z g × Turns d m c (level g) l × Path d m c l) e f (record { some = C .some; upto = C .upto; weighed = w; inside = C .inside }, C .turns, C .path);
+    path =
+        subst₂ (λ m c. Piece d i m z g × Turns d m c (level g) l × Path d m c l) e f
+        (record { some = C .some; upto = C .upto; weighed = w; inside = C .inside }, C .turns, C .path);
     follows = C .next;
   }
 
-  pub closed : {came : Came} {i m : ℕ} {z c : ℤ} {v : Fraction} {l : List Segment} → v ≡ fraction (c -ℤ z) (W d m -ℤ W d i) → Closing came i m z c v l → Meets came i z (segment (m - i) (v .den) (v .num) ∷ l)
+  pub closed : {came : Came} {i m : ℕ} {z c : ℤ} {v : Fraction} {l : List Segment} → v ≡ fraction (c -ℤ z) (W d m -ℤ W d i) → Closing came i m z c v l →
+      Meets came i z (segment (m - i) (v .den) (v .num) ∷ l)
   closed {came} {i} {m} {z} {c} {v} {l} e C =
       let w = abs-z (v .den) (C .inside floor m (C .some) (omega arith) .right) in
-      link came i m z c (segment (m - i) (v .den) (v .num)) l (omega (arith, C .some)) (arrive-z z c ∙ ap (λ v. z +ℤ v .num) (sym e)) (w ∙ ap (λ v. v .den) e) (subst (λ n. Closing came i m z c (fraction (v .num) n) l) (sym w) C)
+      link came i m z c (segment (m - i) (v .den) (v .num)) l (omega (arith, C .some)) (arrive-z z c ∙ ap (λ v. z +ℤ v .num) (sym e))
+      (w ∙ ap (λ v. v .den) e) (subst (λ n. Closing came i m z c (fraction (v .num) n) l) (sym w) C)

@@ -11,7 +11,7 @@ use Rattle.integers.specs.Order.{_⩽_}
 use Rattle.integers.specs.Sums.{sumZ}
 use Rattle.optimality.specs.Series.{Positive, plain, plain-minute, weighted}
 use Rattle.optimality.specs.Segments.{Segment, total-length, Proper, weigh, Weighed, WellFormed, IsLine}
-use Rattle.optimality.specs.Unique.{unique}
+use Rattle.optimality.specs.Uniqueness.{unique}
 
 -- ---- the series
 pub plain-positive : (ys : List ℤ) → Positive (plain ys)
@@ -56,9 +56,13 @@ weighed-plain : (ys : List ℤ) (ns : List ℕ) (ts : List ℤ) → total-length
 unfolding Weighed segments total-length
 weighed-plain ys [] ts h = tt
 weighed-plain ys (n ∷ ns) [] h = tt
-weighed-plain ys (n ∷ ns) (t ∷ ts) h = (sym (weigh-plain n ys (omega arith)), rw (drop-plain n ys) (weighed-plain (drop n ys) ns ts (omega (arith, length-drop n ys))))
+weighed-plain ys (n ∷ ns) (t ∷ ts) h = (
+  sym (weigh-plain n ys (omega arith)),
+  rw (drop-plain n ys) (weighed-plain (drop n ys) ns ts (omega (arith, length-drop n ys))),
+)
 
-pub plain-formed : (ys : List ℤ) (ns : List ℕ) (ts : List ℤ) → Proper (segments ns ts) → total-length (segments ns ts) ≡ length ys → WellFormed (plain ys) (segments ns ts)
+pub plain-formed : (ys : List ℤ) (ns : List ℕ) (ts : List ℤ) → Proper (segments ns ts) → total-length (segments ns ts) ≡ length ys →
+    WellFormed (plain ys) (segments ns ts)
 plain-formed ys ns ts r l = record { proper = r; long = l ∙ sym (length-plain ys); weighed = weighed-plain ys ns ts (omega arith) }
 
 -- ---- and the lists of a line, the one the inverse of the other
@@ -71,7 +75,9 @@ line-totals ss = map (λ s. s .total) ss
 as-lists : (ys : List ℤ) (ss : List Segment) → total-length ss ≤ length ys → Weighed (plain ys) ss → ss ≡ segments (line-lengths ss) (line-totals ss)
 unfolding Weighed segments total-length
 as-lists ys [] l w = refl
-as-lists ys (s ∷ ss) l w = ap₂ _∷_ (go (w .0 ∙ weigh-plain (s .len) ys (omega arith))) (as-lists (drop (s .len) ys) ss (omega (arith, length-drop (s .len) ys)) (rw (drop-plain (s .len) ys) at (w .1)))
+as-lists ys (s ∷ ss) l w =
+    ap₂ _∷_ (go (w .0 ∙ weigh-plain (s .len) ys (omega arith)))
+    (as-lists (drop (s .len) ys) ss (omega (arith, length-drop (s .len) ys)) (rw (drop-plain (s .len) ys) at (w .1)))
   where
     go : pos (s .divisor) ≡ pos (s .len) → s ≡ record { len = s .len; divisor = s .len; total = s .total }
     go e = let d : s .divisor ≡ s .len = cc in λ i. record { len = s .len; divisor = d i; total = s .total }
@@ -86,7 +92,8 @@ lists-back [] (t ∷ ts) l = absurd (omega arith)
 lists-back (n ∷ ns) [] l = absurd (omega arith)
 lists-back (n ∷ ns) (t ∷ ts) l = let h = lists-back ns ts (omega arith) in (ap (λ r. n ∷ r) (h .0), ap (λ r. t ∷ r) (h .1))
 
-pub same-lists : (ns ns′ : List ℕ) (ts ts′ : List ℤ) → length ns ≡ length ts → length ns′ ≡ length ts′ → segments ns ts ≡ segments ns′ ts′ → (ns ≡ ns′) × (ts ≡ ts′)
+pub same-lists : (ns ns′ : List ℕ) (ts ts′ : List ℤ) → length ns ≡ length ts → length ns′ ≡ length ts′ → segments ns ts ≡ segments ns′ ts′ →
+    (ns ≡ ns′) × (ts ≡ ts′)
 same-lists ns ns′ ts ts′ l l′ e =
     let h = lists-back ns ts l in
     let h′ = lists-back ns′ ts′ l′ in

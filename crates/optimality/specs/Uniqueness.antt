@@ -1,4 +1,4 @@
--- A series has one line of segments. Over a common scale two lines have the same numerators (Optimum.antt), and those are cut into runs of one level
+-- A series has one line of segments. Over a common scale two lines have the same numerators (LeastCost.antt), and those are cut into runs of one level
 -- in one way, since neighbours have different levels.
 use mathlib.Core.Path.{_≡_, refl, sym, _∙_, ap, ap₂}
 use mathlib.Core.List.{List, [], _∷_, _++_}
@@ -13,8 +13,8 @@ use Rattle.integers.specs.Products.{*-cancel≡, tri}
 use Rattle.optimality.specs.Series.{Minute, Positive}
 use Rattle.optimality.specs.Segments.{Segment, cross, Differs, Proper, weigh, Weighed, IsLine, Scale, numerator, numerators}
 use Rattle.optimality.specs.Scales.{common}
-use Rattle.optimality.specs.Verdict.{of-scale, in-order, optimal}
-use Rattle.optimality.specs.Optimum.{one-line}
+use Rattle.optimality.specs.FirstBreakLaws.{of-scale, in-order, optimal}
+use Rattle.optimality.specs.LeastCost.{one-line}
 
 -- ---- runs: r does not begin with X
 Off : ℤ → List ℤ → Type 0
@@ -62,17 +62,21 @@ module _ (Q : ℕ) (q : 0 < Q) where
   same-segment : (s t : Segment) → Q % s .divisor ≡ 0 → s .len ≡ t .len → pos (s .divisor) ≡ pos (t .divisor) → numerator Q s ≡ numerator Q t → s ≡ t
   same-segment s t z l d e =
       let f : s .divisor ≡ t .divisor = cc in
-      let g : s .total ≡ t .total = *-cancel≡ (s .total) (t .total) (pos (Q / s .divisor)) (of-scale Q q s z .above) (e ∙ ap (λ n. t .total *ℤ pos (Q / n)) (sym f)) in
+      let g : s .total ≡ t .total =
+      *-cancel≡ (s .total) (t .total) (pos (Q / s .divisor)) (of-scale Q q s z .above) (e ∙ ap (λ n. t .total *ℤ pos (Q / n)) (sym f)) in
       λ i. record { len = l i; divisor = f i; total = g i }
 
-  read-back : (ms : List Minute) (ss ss′ : List Segment) → Proper ss → Proper ss′ → Scale Q ss → Scale Q ss′ → Weighed ms ss → Weighed ms ss′ → numerators Q ss ≡ numerators Q ss′ → ss ≡ ss′
+  read-back : (ms : List Minute) (ss ss′ : List Segment) → Proper ss → Proper ss′ → Scale Q ss → Scale Q ss′ → Weighed ms ss → Weighed ms ss′ →
+      numerators Q ss ≡ numerators Q ss′ → ss ≡ ss′
   unfolding Scale Proper Weighed numerators
   read-back ms [] [] r r′ z z′ w w′ e = refl
   read-back ms [] (t ∷ ts) r r′ z z′ w w′ e = absurd (no-run (t .len) _ _ (r′ .0) e)
   read-back ms (s ∷ ss) [] r r′ z z′ w w′ e = absurd (no-run (s .len) _ _ (r .0) (sym e))
   read-back ms (s ∷ ss) (t ∷ ts) r r′ z z′ w w′ e =
       let x : numerator Q s ≡ numerator Q t = same-level (s .len) (t .len) _ _ (numerators Q ss) (numerators Q ts) (r .0) (r′ .0) e in
-      let h = same-run (s .len) (t .len) (numerator Q s) (numerators Q ss) (numerators Q ts) (off s ss z (r .1) (r .2)) (rw x (off t ts z′ (r′ .1) (r′ .2))) (e ∙ ap (λ y. replicate (t .len) y ++ numerators Q ts) (sym x)) in
+      let h =
+      same-run (s .len) (t .len) (numerator Q s) (numerators Q ss) (numerators Q ts) (off s ss z (r .1) (r .2)) (rw x (off t ts z′ (r′ .1) (r′ .2)))
+      (e ∙ ap (λ y. replicate (t .len) y ++ numerators Q ts) (sym x)) in
       ap₂ _∷_ (same-segment s t (z .0) (h .0) (w .0 ∙ ap (λ n. weigh n ms) (h .0) ∙ sym (w′ .0)) x)
       (read-back (drop (s .len) ms) ss ts (r .2) (r′ .2) (z .1) (z′ .1) (w .1) (rw (h .0) (w′ .1)) (h .1))
 

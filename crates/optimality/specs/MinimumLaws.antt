@@ -1,4 +1,4 @@
--- A line is the minimum (RULES 2.5): over a common scale Q a candidate's cost times 2 Q² is (Q / q)² times that over q, so all that Optimum.antt
+-- A line is the minimum (RULES 2.5): over a common scale Q a candidate's cost times 2 Q² is (Q / q)² times that over q, so all that LeastCost.antt
 -- says of numerators over Q is said of it.
 use mathlib.Core.Path.{_≡_, refl, sym, _∙_, ap, ap₂}
 use mathlib.Core.List.{List, [], _∷_}
@@ -14,9 +14,9 @@ use Rattle.optimality.specs.Segments.{Segment, IsLine, numerators}
 use Rattle.optimality.specs.Cost.{misfit, variation, cost, distance}
 use Rattle.optimality.specs.Minimum.{times, Minimum, squares, PlainMinimum}
 use Rattle.optimality.specs.Scales.{quotient}
-use Rattle.optimality.specs.Verdict.{optimal}
-use Rattle.optimality.specs.Optimum.{best}
-use Rattle.optimality.specs.Plain.{plain-positive, length-plain}
+use Rattle.optimality.specs.FirstBreakLaws.{optimal}
+use Rattle.optimality.specs.LeastCost.{best}
+use Rattle.optimality.specs.PlainSeries.{plain-positive, length-plain}
 
 -- ---- a scale that is c times larger
 length-times : (c : ℤ) (ps : List ℤ) → length (times c ps) ≡ length ps
@@ -36,7 +36,8 @@ variation-times : (n : ℕ) (ps : List ℤ) → variation (times (pos n) ps) ≡
 unfolding variation times
 variation-times n [] = sym (*ℤ-zero (pos n))
 variation-times n (p ∷ []) = sym (*ℤ-zero (pos n))
-variation-times n (p ∷ p′ ∷ ps) = ap₂ _+ℤ_ (ap absℤ (out (pos n)) ∙ ap pos (abs-* (pos n) (p′ -ℤ p))) (variation-times n (p′ ∷ ps)) ∙ sum (pos n) (absℤ (p′ -ℤ p)) (variation (p′ ∷ ps))
+variation-times n (p ∷ p′ ∷ ps) =
+    ap₂ _+ℤ_ (ap absℤ (out (pos n)) ∙ ap pos (abs-* (pos n) (p′ -ℤ p))) (variation-times n (p′ ∷ ps)) ∙ sum (pos n) (absℤ (p′ -ℤ p)) (variation (p′ ∷ ps))
   where
     out : (c : ℤ) → c *ℤ p′ -ℤ c *ℤ p ≡ c *ℤ (p′ -ℤ p)
     out c = ring (c ∷ p ∷ p′ ∷ []) (search reify depth 20) refl
@@ -52,7 +53,8 @@ cost-times n q L ms ps = rw (misfit-times (pos n) q ms ps, variation-times n ps)
 
 pub minimum : (L : ℤ) (ms : List Minute) (ss : List Segment) → Positive ms → pos 0 ⩽ L → IsLine L (pos 0) (pos 0) ms ss → Minimum L ms ss
 minimum L ms ss p l h q ps e Q k d z =
-    rw (← cost-times (Q / q) (pos q) L ms ps, quotient Q q k d .times) (best (pos Q) L ms (numerators Q ss) (times (pos (Q / q)) ps) p (optimal L (pos 0) (pos 0) ms ss l h Q k z) (length-times (pos (Q / q)) ps ∙ e))
+    rw (← cost-times (Q / q) (pos q) L ms ps, quotient Q q k d .times)
+    (best (pos Q) L ms (numerators Q ss) (times (pos (Q / q)) ps) p (optimal L (pos 0) (pos 0) ms ss l h Q k z) (length-times (pos (Q / q)) ps ∙ e))
 
 plain-distance : (ys zs xs : List ℤ) → length zs ≡ length ys → distance (plain ys) zs xs ≡ squares zs xs
 unfolding distance plain squares
@@ -70,5 +72,9 @@ plain-misfit q (y ∷ ys) (p ∷ ps) = ap₂ _+ℤ_ (one-*ℤ ((q *ℤ y -ℤ p)
 
 pub plain-minimum : (L : ℤ) (ys : List ℤ) (ss : List Segment) → pos 0 ⩽ L → IsLine L (pos 0) (pos 0) (plain ys) ss → PlainMinimum L ys ss
 plain-minimum L ys ss l h q ps e Q k d z =
-    rw (← plain-distance ys (times (pos (Q / q)) ps) (numerators Q ss) (length-times _ ps ∙ e), ← plain-misfit (pos q) ys ps, ← plain-misfit (pos Q) ys (numerators Q ss))
+    rw (
+      ← plain-distance ys (times (pos (Q / q)) ps) (numerators Q ss) (length-times _ ps ∙ e),
+      ← plain-misfit (pos q) ys ps,
+      ← plain-misfit (pos Q) ys (numerators Q ss),
+    )
     (minimum L (plain ys) ss (plain-positive ys) l h q ps (e ∙ sym (length-plain ys)) Q k d z)

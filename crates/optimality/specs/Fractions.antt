@@ -1,5 +1,5 @@
 -- Fractions with positive denominators, compared by cross products. Each order holds the two signs, so that it is transitive as it stands.
--- What the machine's proof uses of it is in `Laws`, which hold of the order and of its opposite: so a proof over `Laws` serves both bounds.
+-- What the machine's proof uses of it is in `OrderLaws`, which hold of the order and of its opposite: so a proof over `OrderLaws` serves both bounds.
 use mathlib.Core.Path.{_≡_, refl}
 use mathlib.Core.Bool.{Bool, true, false}
 use mathlib.Core.List.{[], _∷_}
@@ -9,7 +9,10 @@ use lib.Signed.{ltZ, ≤ℤ-refl, clashℤ}
 use Rattle.integers.specs.Order.{_⩽_, _⋖_, gap, gap<, 0⋖+, ⋖→⩽, lt-true, lt-false}
 use Rattle.integers.specs.Ring.{reify}
 use Rattle.integers.specs.Certificates.{_⊕_, _⊗_, by⩽, by0⋖, by⩽/}
-use Rattle.optimality.specs.Machine.{Fraction}
+
+pub record Fraction : Type 0 where
+  pub num : ℤ
+  pub den : ℤ
 
 abbrev pub fraction : ℤ → ℤ → Fraction
 fraction t n = record { num = t; den = n }
@@ -40,7 +43,7 @@ below-true r s p q e = record { left = p; right = q; cross = lt-true e }
 pub below-false : (r s : Fraction) → pos 0 ⋖ r .den → pos 0 ⋖ s .den → below r s ≡ false → s ≼ r
 below-false r s p q e = record { left = q; right = p; cross = lt-false e }
 
-pub record Laws (le lt : Fraction → Fraction → Type 0) : Type 0 where
+pub record OrderLaws (le lt : Fraction → Fraction → Type 0) : Type 0 where
   pub rfl : (r : Fraction) → pos 0 ⋖ r .den → le r r
   pub lele : {r s q : Fraction} → le r s → le s q → le r q
   pub ltle : {r s q : Fraction} → lt r s → le s q → lt r q
@@ -72,7 +75,11 @@ rfl′ : (r : Fraction) → pos 0 ⋖ r .den → r ≼ r
 rfl′ r p = record { left = p; right = p; cross = ≤ℤ-refl (r .den *ℤ r .num) }
 
 lele′ : {r s q : Fraction} → r ≼ s → s ≼ q → r ≼ q
-lele′ {r} {s} {q} h k = record { left = h .left; right = k .right; cross = lele-z (r .num) (r .den) (s .num) (s .den) (q .num) (q .den) (h .left) (h .right) (k .right) (h .cross) (k .cross) }
+lele′ {r} {s} {q} h k = record {
+  left = h .left;
+  right = k .right;
+  cross = lele-z (r .num) (r .den) (s .num) (s .den) (q .num) (q .den) (h .left) (h .right) (k .right) (h .cross) (k .cross);
+}
 
 either : (r s : Fraction) → pos 0 ⋖ r .den → pos 0 ⋖ s .den → (r ≺ s) ⊎ (s ≼ r)
 either r s p q = go (below r s) refl
@@ -96,7 +103,7 @@ weak′ h = record { left = h .left; right = h .right; cross = ⋖→⩽ (h .cro
 irr′ : {r : Fraction} → r ≺ r → ⊥
 irr′ h = apart h (weak′ h)
 
-pub upward : Laws _≼_ _≺_
+pub upward : OrderLaws _≼_ _≺_
 upward = record {
   rfl = rfl′;
   lele = lele′;
@@ -104,11 +111,19 @@ upward = record {
   lelt = lelt′;
   weak = weak′;
   irr = irr′;
-  sub-le = λ {r} {v} {s} h k p. record { left = p; right = h .right; cross = sub-le-z (r .num) (r .den) (v .num) (v .den) (s .num) (s .den) (h .cross) (k .cross) };
-  sub-lt = λ {r} {v} {s} h k p. record { left = p; right = h .right; cross = sub-lt-z (r .num) (r .den) (v .num) (v .den) (s .num) (s .den) (h .cross) (k .cross) };
+  sub-le = λ {r} {v} {s} h k p. record {
+    left = p;
+    right = h .right;
+    cross = sub-le-z (r .num) (r .den) (v .num) (v .den) (s .num) (s .den) (h .cross) (k .cross);
+  };
+  sub-lt = λ {r} {v} {s} h k p. record {
+    left = p;
+    right = h .right;
+    cross = sub-lt-z (r .num) (r .den) (v .num) (v .den) (s .num) (s .den) (h .cross) (k .cross);
+  };
 }
 
-pub downward : Laws (λ r s. s ≼ r) (λ r s. s ≺ r)
+pub downward : OrderLaws (λ r s. s ≼ r) (λ r s. s ≺ r)
 downward = record {
   rfl = rfl′;
   lele = λ h k. lele′ k h;
@@ -116,6 +131,14 @@ downward = record {
   lelt = λ h k. ltle′ k h;
   weak = weak′;
   irr = irr′;
-  sub-le = λ {r} {v} {s} h k p. record { left = h .left; right = p; cross = sup-le-z (r .num) (r .den) (v .num) (v .den) (s .num) (s .den) (h .cross) (k .cross) };
-  sub-lt = λ {r} {v} {s} h k p. record { left = h .left; right = p; cross = sup-lt-z (r .num) (r .den) (v .num) (v .den) (s .num) (s .den) (h .cross) (k .cross) };
+  sub-le = λ {r} {v} {s} h k p. record {
+    left = h .left;
+    right = p;
+    cross = sup-le-z (r .num) (r .den) (v .num) (v .den) (s .num) (s .den) (h .cross) (k .cross);
+  };
+  sub-lt = λ {r} {v} {s} h k p. record {
+    left = h .left;
+    right = p;
+    cross = sup-lt-z (r .num) (r .den) (v .num) (v .den) (s .num) (s .den) (h .cross) (k .cross);
+  };
 }

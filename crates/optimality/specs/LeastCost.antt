@@ -65,7 +65,8 @@ best-between Q L a b ms xs zs p h e = record {
     none C D A h k = omega (int, dif D C)
 
 -- a whole series
-pub best : (Q L : ℤ) (ms : List Minute) (xs zs : List ℤ) → Positive ms → Optimal Q L (pos 0) (pos 0) ms xs → length zs ≡ length ms → Best xs zs (cost Q L ms xs) (cost Q L ms zs) (distance ms zs xs)
+pub best : (Q L : ℤ) (ms : List Minute) (xs zs : List ℤ) → Positive ms → Optimal Q L (pos 0) (pos 0) ms xs → length zs ≡ length ms →
+    Best xs zs (cost Q L ms xs) (cost Q L ms zs) (distance ms zs xs)
 best Q L ms xs zs p h e = rw (← whole-cost Q L ms xs, ← whole-cost Q L ms zs) (best-between Q L (pos 0) (pos 0) ms xs zs p h e)
 
 -- two lines of one series over one scale are the same

@@ -1,7 +1,7 @@
 -- Within the limits the machine's numbers stay small along the run of a plain series, so that each term it forms fits 64 bits.
 -- A segment of n minutes begins with a dual of at most L, so |U| ≤ L + 2^24 n.
 use mathlib.Core.Path.{_≡_, refl, _∙_, ap}
-use mathlib.Core.Bool.{Bool, true, false}
+use mathlib.Core.Bool.{Bool, true, false, cond}
 use mathlib.Core.List.{List, [], _∷_}
 use mathlib.Core.Logic.{⊎-elim}
 use native.Mathlib.Omega.{arith}
@@ -14,17 +14,17 @@ use mir.Val.{SFits}
 use Rattle.integers.specs.Order.{_⩽_, abs-+, abs-neg}
 use Rattle.integers.specs.Bounds.{Upto, cleaning, fit}
 use Rattle.optimality.specs.Series.{plain, Bounded, Limited}
-use Rattle.optimality.specs.Machine.{Increments, plain-increments, State, Out, on, emit, stop, pick, begin, more, inside, final, step}
-use Rattle.optimality.specs.Tube.{Right, plain-right}
-use Rattle.optimality.specs.Tests.{U′, n′, test3, test4, keeps-min, keeps-max, test8, test9, step-inside, step-final}
-use Rattle.optimality.specs.Sound.{Sound, Facts, After, facts, inside-after, final-after}
+use Rattle.optimality.specs.Machine.{Increments, plain-increments, State, Out, on, emit, stop, begin, more, inside, final, step}
+use Rattle.optimality.specs.Tube.{ValidIncrements, plain-valid}
+use Rattle.optimality.specs.StepTests.{U′, n′, test3, test4, keeps-min, keeps-max, test8, test9, step-inside, step-final}
+use Rattle.optimality.specs.MachineLaws.{Sound, Facts, After, facts, inside-after, final-after}
 
 -- a bound t / n: at most 3 · 2^40 over 2^16
-pub record Slight (t n : ℤ) : Type 0 where
+pub record SmallBound (t n : ℤ) : Type 0 where
   pub total : Upto 3298534883328 t
   pub divisor : Upto 65536 n
 
-picked : (b : Bool) (t n t′ n′ : ℤ) → Slight t n → Slight t′ n′ → Slight (pick b t t′) (pick b n n′)
+picked : (b : Bool) (t n t′ n′ : ℤ) → SmallBound t n → SmallBound t′ n′ → SmallBound (cond b t t′) (cond b n n′)
 picked true t n t′ n′ h k = h
 picked false t n t′ n′ h k = k
 
@@ -44,8 +44,8 @@ module _ (L : ℤ) (ys : List ℤ) where
   pub record Small (s : State) : Type 0 where
     pub count : s .n ≡ pos (s .k - s .i)
     pub sum : natAbs (s .U) ≤ natAbs L + 16777216 * (s .k - s .i)
-    pub min : Slight (s .tmin) (s .nmin)
-    pub max : Slight (s .tmax) (s .nmax)
+    pub min : SmallBound (s .tmin) (s .nmin)
+    pub max : SmallBound (s .tmax) (s .nmax)
 
   abbrev pub SmallAfter : Out → Type 0
   SmallAfter (on s) = Small s
@@ -56,8 +56,8 @@ module _ (L : ℤ) (ys : List ℤ) where
   pub record Room (s : State) : Type 0 where
     pub U : Upto 2199023255552 (s .U)
     pub n : Upto 65536 (s .n)
-    pub min : Slight (s .tmin) (s .nmin)
-    pub max : Slight (s .tmax) (s .nmax)
+    pub min : SmallBound (s .tmin) (s .nmin)
+    pub max : SmallBound (s .tmax) (s .nmax)
     pub smoothing : Upto 1099511627776 L
 
   -- these terms, test by test
@@ -82,14 +82,14 @@ module _ (L : ℤ) (ys : List ℤ) where
   }
 
   module _ (smooth : pos 0 ⩽ L) (lim : Limited ys (natAbs L)) where
-    abbrev r : Right d
-    r = plain-right L ys (lim .some) smooth
+    abbrev r : ValidIncrements d
+    r = plain-valid L ys (lim .some) smooth
 
     sample : (j : ℕ) → j < length ys → Upto 16777216 (y j)
     sample = sample-small 16777216 ys (lim .samples)
 
     -- a bound touched at U, after n minutes
-    touched : (U : ℤ) (n : ℕ) (e : ℤ) → natAbs e ≡ natAbs L → natAbs U ≤ natAbs L + 16777216 * n → n ≤ 65536 → Slight (U +ℤ e) (pos n)
+    touched : (U : ℤ) (n : ℕ) (e : ℤ) → natAbs e ≡ natAbs L → natAbs U ≤ natAbs L + 16777216 * n → n ≤ 65536 → SmallBound (U +ℤ e) (pos n)
     touched U n e q h k = record { total = record { upto = omega (arith, abs-+ U e, lim .smooth) }; divisor = record { upto = k } }
 
     -- ---- step 1
@@ -97,7 +97,12 @@ module _ (L : ℤ) (ys : List ℤ) where
     begin-small i u h k =
         let n : suc i - i ≡ 1 = omega arith in
         let U : natAbs (u +ℤ y i) ≤ natAbs L + 16777216 * 1 = omega (arith, abs-+ u (y i), sample i k .upto) in
-        record { count = rw n; sum = rw n U; min = touched (u +ℤ y i) 1 (negℤ L) (abs-neg L) U (omega arith); max = touched (u +ℤ y i) 1 L refl U (omega arith) }
+        record {
+          count = rw n;
+          sum = rw n U;
+          min = touched (u +ℤ y i) 1 (negℤ L) (abs-neg L) U (omega arith);
+          max = touched (u +ℤ y i) 1 L refl U (omega arith);
+        }
 
     fallen : (κ : ℕ) → κ < length ys → Small (begin d κ L)
     fallen κ h = begin-small κ L (omega arith) h
@@ -126,7 +131,7 @@ module _ (L : ℤ) (ys : List ℤ) where
           let n : n′ d s ≡ pos m = ap (λ n. n +ℤ pos 1) (B .count) ∙ ap pos q in
           let l : m ≤ 65536 = omega (arith, lim .few) in
           let U : natAbs (U′ d s) ≤ natAbs L + 16777216 * m = omega (arith, abs-+ (s .U) (y (s .k)), B .sum, sample (s .k) h .upto) in
-          let new : (e : ℤ) → natAbs e ≡ natAbs L → Slight (U′ d s +ℤ e) (n′ d s) = λ e f. rw n (touched (U′ d s) m e f U l) in
+          let new : (e : ℤ) → natAbs e ≡ natAbs L → SmallBound (U′ d s +ℤ e) (n′ d s) = λ e f. rw n (touched (U′ d s) m e f U l) in
           record {
             count = n;
             sum = U;

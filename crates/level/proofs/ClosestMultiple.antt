@@ -4,11 +4,12 @@ use mathlib.Core.Logic.{_⊎_, inl, inr, ⊎-elim}
 use Prim.Native.Nat.{ℕ, zero, suc, _+_, _-_, _*_, _/_, _%_, _≤_, _<_, compare, Ordering, Ordering·lt, Ordering·eq, Ordering·gt}
 use native.Mathlib.Nat.{le-trans, le-of-eq, mod-lt, mul-comm, add-mul, mul-sub, suc-mul, mul-le-mul-right, div-add-mod', eq-or-lt-of-le}
 use native.Mathlib.Omega.{arith}
-use mathlib.Core.Bool.{Bool, true, false, not}
-use lib.Dec.{T, isLe, isEq, leb, eqb, leb→le, nleb→lt, eqb→eq, eqb-refl, lit<}
+use mathlib.Core.Bool.{not}
+use lib.Dec.{T, isLe, isEq, eqb, leb→le, nleb→lt, eqb→eq, eqb-refl, lit<}
 use lib.Arith.{lt-of-le-ne}
 use lib.Ieee.{nearest}
 use lib.Ieee.Nearest.{closest}
+use Rattle.integers.specs.Order.{le-or-lt}
 
 -- the distance of two numbers
 abbrev pub apart : ℕ → ℕ → ℕ
@@ -16,13 +17,6 @@ apart a b = (a - b) + (b - a)
 
 pub apart-mul : (a b k : ℕ) → apart (a * k) (b * k) ≡ apart a b * k
 apart-mul a b k = rw (mul-comm a k, mul-comm b k, ← mul-sub k a b, ← mul-sub k b a, mul-comm k (a - b), mul-comm k (b - a)) (sym (add-mul (a - b) (b - a) k))
-
-pub le-or-lt : (a b : ℕ) → (a ≤ b) ⊎ (b < a)
-le-or-lt a b = go (leb a b) (leb→le a b) (nleb→lt a b)
-  where
-    go : (t : Bool) → (T t → a ≤ b) → (T (not t) → b < a) → (a ≤ b) ⊎ (b < a)
-    go true f g = inl (f tt)
-    go false f g = inr (g tt)
 
 -- what `compare` says
 abbrev Cmp : Ordering → ℕ → ℕ → Type 0

@@ -17,12 +17,12 @@ use lib.Ieee.Exact.{HasValue, units-val}
 use lib.Ieee.Order.{drop, kept}
 use lib.Ieee.Scale.{grid, overflow, finite}
 use Rattle.integers.specs.Linear.{int, dif, size as magnitude}
-use Rattle.integers.specs.Order.{abs-neg}
+use Rattle.integers.specs.Order.{le-or-lt, abs-neg}
 use Rattle.integers.specs.Ring.{ring, reify}
 use Rattle.level.specs.Limits.{Valid}
-use Rattle.level.specs.Plot.{negative, nearestTo, signed, den, off, Even, NearestF64}
+use Rattle.level.specs.Plot.{negative, nearestTo, signed, den, distance, Even, NearestF64}
 use Rattle.level.specs.declared.Level.{Level}
-use Rattle.level.proofs.Closest.{apart, apart-mul, le-or-lt}
+use Rattle.level.proofs.ClosestMultiple.{apart, apart-mul}
 use Rattle.level.proofs.Significand.{kept-half, kept-best, kept-small, one-f64, even-bits}
 
 -- ---- distances of signed numbers, by their magnitudes
@@ -224,36 +224,36 @@ module _ (a : Level) (ok : Valid a) where
   abbrev s : Bool
   s = negative (a .total)
 
-  off-same : (n : ℕ) (d : ℤ) → off (fin s n d) a ≡ apart (n * up d * a .length) (N * down d)
-  off-same n d = ap (λ x. natAbs (signed s (n * up d) *ℤ pos (a .length) -ℤ x *ℤ pos (down d))) (by-sign (a .total)) ∙ same-sign s (n * up d) N (a .length) (down d)
+  distance-same : (n : ℕ) (d : ℤ) → distance (fin s n d) a ≡ apart (n * up d * a .length) (N * down d)
+  distance-same n d = ap (λ x. natAbs (signed s (n * up d) *ℤ pos (a .length) -ℤ x *ℤ pos (down d))) (by-sign (a .total)) ∙ same-sign s (n * up d) N (a .length) (down d)
 
-  off-other : (n : ℕ) (d : ℤ) → off (fin (not s) n d) a ≡ n * up d * a .length + N * down d
-  off-other n d = ap (λ x. natAbs (signed (not s) (n * up d) *ℤ pos (a .length) -ℤ x *ℤ pos (down d))) (by-sign (a .total)) ∙ other-sign s (n * up d) N (a .length) (down d)
+  distance-other : (n : ℕ) (d : ℤ) → distance (fin (not s) n d) a ≡ n * up d * a .length + N * down d
+  distance-other n d = ap (λ x. natAbs (signed (not s) (n * up d) *ℤ pos (a .length) -ℤ x *ℤ pos (down d))) (by-sign (a .total)) ∙ other-sign s (n * up d) N (a .length) (down d)
 
   module _ (m : ℕ) (e : ℤ) (v : m * up e * 2 ^ 1074 ≡ grid binary64 N (a .length) * down e) (f : T (fits binary64 (fin s m e))) where
-    best-of : (y : Float) → T (fits binary64 y) → T (finite y) → off (fin s m e) a * den y ≤ off y a * down e
+    best-of : (y : Float) → T (fits binary64 y) → T (finite y) → distance (fin s m e) a * den y ≤ distance y a * down e
     best-of nan k t = absurd t
     best-of (inf r) k t = absurd t
     best-of (fin r n d) k t = ⊎-elim
-        (λ (q : r ≡ s). subst (λ (x : Bool). off (fin s m e) a * down d ≤ off (fin x n d) a * down e) (sym q) (rw (off-same m e, off-same n d) (same-near N (a .length) (ok .some) (ok .small) s m e v n d (of-fits r n d k))))
-        (λ (q : r ≡ not s). subst (λ (x : Bool). off (fin s m e) a * down d ≤ off (fin x n d) a * down e) (sym q) (rw (off-same m e, off-other n d) (other-near N (a .length) (ok .some) (ok .small) s m e v (n * up d * a .length) (down d))))
+        (λ (q : r ≡ s). subst (λ (x : Bool). distance (fin s m e) a * down d ≤ distance (fin x n d) a * down e) (sym q) (rw (distance-same m e, distance-same n d) (same-near N (a .length) (ok .some) (ok .small) s m e v n d (of-fits r n d k))))
+        (λ (q : r ≡ not s). subst (λ (x : Bool). distance (fin s m e) a * down d ≤ distance (fin x n d) a * down e) (sym q) (rw (distance-same m e, distance-other n d) (other-near N (a .length) (ok .some) (ok .small) s m e v (n * up d * a .length) (down d))))
         (like r s)
 
-    even-of : (y : Float) → T (fits binary64 y) → T (finite y) → (fin s m e ≡ y → ⊥) → off (fin s m e) a * den y ≡ off y a * down e → Even (fin s m e)
+    even-of : (y : Float) → T (fits binary64 y) → T (finite y) → (fin s m e ≡ y → ⊥) → distance (fin s m e) a * den y ≡ distance y a * down e → Even (fin s m e)
     even-of nan k t ne q = absurd t
     even-of (inf r) k t ne q = absurd t
     even-of (fin r n d) k t ne q = ⊎-elim
         (λ (p : r ≡ s). same-tie N (a .length) (ok .some) (ok .small) s m e v f n d (subst (λ (x : Bool). T (fits binary64 (fin x n d))) p k) (λ z. ne (z ∙ ap (λ (x : Bool). fin x n d) (sym p)))
-        (rw (off-same m e, off-same n d) at (subst (λ (x : Bool). off (fin s m e) a * down d ≡ off (fin x n d) a * down e) p q)))
+        (rw (distance-same m e, distance-same n d) at (subst (λ (x : Bool). distance (fin s m e) a * down d ≡ distance (fin x n d) a * down e) p q)))
         (λ (p : r ≡ not s). other-tie N (a .length) (ok .some) (ok .small) s m e v (n * up d * a .length) (down d) (down-pos d)
-        (rw (off-same m e, off-other n d) at (subst (λ (x : Bool). off (fin s m e) a * down d ≡ off (fin x n d) a * down e) p q)))
+        (rw (distance-same m e, distance-other n d) at (subst (λ (x : Bool). distance (fin s m e) a * down d ≡ distance (fin x n d) a * down e) p q)))
         (like r s)
 
     nearest-at : NearestF64 a (fin s m e)
     nearest-at = record {
       f64 = f;
       real = tt;
-      within = rw (off-same m e) (near N (a .length) (ok .some) (ok .small) s m e v);
+      within = rw (distance-same m e) (near N (a .length) (ok .some) (ok .small) s m e v);
       best = best-of;
       even = even-of;
     }
