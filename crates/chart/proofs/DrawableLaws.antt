@@ -18,7 +18,7 @@ use Rattle.series.specs.declared.Checked.{Checked}
 use Rattle.series.proofs.Refusals.{never, if-past, pass, if-alike, then, then-is}
 use Rattle.checker.specs.Shape.{well-shaped}
 use Rattle.checker.specs.Check.{shapeOf}
-use Rattle.checker.proofs.ShapeLaws.{Shaped, lists-past, lists-alike}
+use Rattle.checker.proofs.ShapeLaws.{lists-past, lists-alike}
 use Rattle.chart.specs.Drawable.{sum, nth, Drawable}
 use Rattle.chart.proofs.SumLaws.{sum-next, sum-part}
 

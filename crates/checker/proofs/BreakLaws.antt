@@ -76,7 +76,9 @@ module _ (L : ℕ) (ys : List ℤ) where
       unfolding break-from plain
       held-told d n i = go (outside (sideOf L true (t .length)) (moved d .v) (sideOf L false (t .length)))
         where
-          go : (b : Bool) → told t (unless-stopped (cond b (failed (moved d)) (moved d)) (alongOf L ys t (cond b (failed (moved d)) (moved d)) (suc n))) ss ≡ found b (suc (d .at)) (breaks (moved d) (suc n) (drop (suc (d .at)) ys))
+          go : (b : Bool) →
+              told t (unless-stopped (cond b (failed (moved d)) (moved d)) (alongOf L ys t (cond b (failed (moved d)) (moved d)) (suc n))) ss ≡ found b
+              (suc (d .at)) (breaks (moved d) (suc n) (drop (suc (d .at)) ys))
           go true = told-stop t (failed (moved d)) _ ss (omega arith)
           go false = i
 

@@ -1,10 +1,9 @@
 -- Where the refusals of a line stand: a place is at most the number of minutes or of segments.
-use mathlib.Core.Path.{_≡_}
 use mathlib.Core.Bool.{not, _||_}
 use mathlib.Core.List.{List, [], _∷_}
 use native.Mathlib.Omega.{arith}
 use Prim.Native.Nat.{ℕ, zero, suc, _+_, _≤_}
-use lib.Dec.{eqb, ltb}
+use lib.Dec.{eqb}
 use lib.ListN.{length}
 use lib.IntN.{ℤ, pos, negℤ}
 use Rattle.optimality.specs.Series.{Minute, plain}

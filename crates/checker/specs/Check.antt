@@ -12,7 +12,7 @@ use Rattle.optimality.specs.PlainSeries.{segments}
 use Rattle.level.specs.Answer.{Answer, given, refuse-if, refuse-at}
 use Rattle.series.specs.Limits.{in-limits}
 use Rattle.series.specs.Optimality.{Meets}
-use Rattle.checker.specs.Shape.{line-shaped, well-shaped}
+use Rattle.checker.specs.Shape.{well-shaped}
 
 -- of a line alone, for a series of n minutes: 1, 2, 6, 7, 8
 abbrev pub shapeOf : ℕ → List ℕ → List ℤ → Answer (Unit {0})

@@ -95,10 +95,7 @@ module _ (s out : List ℕ) (b : ℕ) (e : completeOf s out ≡ given b) where
   pub sized : (b ≤ length out) × (size (length (samples s)) (length (plain-line (pos (smoothing s)) (samples s))) ≡ b)
   sized = has-room out _ b (lists .0)
 
-  -- the number that is answered counts bytes of the output, of which no sheet has more than this
-  pub bytes-in-output : b ≤ length out
-  bytes-in-output = sized .0
-
+  -- no sheet has more bytes than this
   pub bytes-few : b ≤ 1048608
   bytes-few = omega (arith, sized .1, line-few (samples s) (smoothing s) (limited .some), limited .few)
 

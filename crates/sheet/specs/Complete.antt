@@ -8,7 +8,7 @@ use Rattle.optimality.specs.Segments.{Segment}
 use Rattle.optimality.specs.PlainSeries.{line-lengths}
 use Rattle.optimality.specs.PlainSeries as Plain
 use Rattle.optimality.specs.Machine.{plain-line}
-use Rattle.level.specs.Answer.{Answer, given}
+use Rattle.level.specs.Answer.{Answer}
 use Rattle.series.specs.Answer.{refill, on-success}
 use Rattle.layout.specs.Format.{smoothing, samples, size, sheet-bytes}
 use Rattle.sheet.specs.Read.{accepted}

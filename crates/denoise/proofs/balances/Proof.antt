@@ -4,11 +4,10 @@ use borrow.Author.Tests.{lt-ltb, le-ltb}
 use mathlib.Core.Path.{_≡_, sym, ap, _∙_}
 use lib.ListN.{length}
 use Rattle.level.specs.Answer.{Answer, given, refused}
-use Rattle.series.specs.Limits.{in-limits}
 use Rattle.denoise.specs.Dual.{balancesOf}
 use Rattle.series.specs.Answer.{checked}
 use Rattle.optimality.specs.Series.{Limited}
-use Rattle.series.proofs.Refusals.{Alike, pass, stopped}
+use Rattle.series.proofs.Refusals.{pass, stopped}
 use Rattle.series.proofs.LimitsLaws.{limits-given, limits-passed, limits-alike}
 use Rattle.denoise.proofs.balances.Statement.{statement}
 use Rattle.denoise.proofs.balances.Tie as tie

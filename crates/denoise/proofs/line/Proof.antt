@@ -7,11 +7,10 @@ use lib.ListN.{length}
 use lib.IntN.{pos}
 use Rattle.level.specs.Answer.{Answer, given, refused}
 use Rattle.optimality.specs.Machine.{plain-line}
-use Rattle.series.specs.Limits.{in-limits}
 use Rattle.denoise.specs.Line.{lineOf}
 use Rattle.series.specs.Answer.{checked}
 use Rattle.optimality.specs.Series.{Limited}
-use Rattle.series.proofs.Refusals.{Alike, pass, stopped}
+use Rattle.series.proofs.Refusals.{pass, stopped}
 use Rattle.series.proofs.LimitsLaws.{limits-given, limits-passed, limits-alike}
 use Rattle.denoise.proofs.LineLaws.{promised}
 use Rattle.denoise.proofs.line.Statement.{statement}

@@ -5,7 +5,6 @@ use mathlib.Core.Bool.{Bool, true, false, not, true≢false, cond}
 use mathlib.Core.List.{List}
 use Prim.Native.Nat.{ℕ}
 use lib.IntN.{ℤ}
-use Rattle.optimality.specs.Machine.{State}
 use Rattle.denoise.specs.Run.{stateOf, belowOf, tubeOf, moreOf}
 use Rattle.denoise.specs.declared.steps.Tube.{Tube}
 use Rattle.denoise.specs.declared.steps.Slope.{Slope}
