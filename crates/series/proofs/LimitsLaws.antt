@@ -1,5 +1,6 @@
 -- The answer to 1, 2, 4 and 3: a series within the limits passes them, and no other does.
-use mathlib.Core.Path.{_≡_, refl}
+use mathlib.Core.Path.{_≡_, refl, ap, _∙_}
+use mathlib.Core.Bool.{Bool}
 use mathlib.Core.List.{List, [], _∷_}
 use mathlib.Core.Option.{none}
 use native.Mathlib.Omega.{arith}
@@ -7,6 +8,9 @@ use Prim.Native.Nat.{ℕ, suc, _<_}
 use lib.Dec.{eqb, ltb}
 use lib.ListN.{length}
 use lib.IntN.{ℤ, natAbs}
+use mir.Facts.{toZ-ofZ}
+use mir.Syntax.{w32}
+use mir.Val.{SFits, toZ, ofZ}
 use borrow.Author.Tests.{eqb-false, ltb-false, ne-eqb, le-ltb}
 use Rattle.optimality.specs.Series.{plain, Bounded, Limited}
 use Rattle.level.specs.Answer.{Answer, refused, given}
@@ -14,6 +18,10 @@ use Rattle.series.specs.Search.{first-from, first}
 use Rattle.series.specs.Limits.{bad-sample, in-limits}
 use Rattle.series.proofs.SearchLaws.{none-found}
 use Rattle.series.proofs.Refusals.{never, if-past, at-past, Alike, if-alike, at-alike}
+
+-- the test of a sample, as a list's entry is handed to it
+pub handed : (y : ℤ) {b : Bool} → SFits w32 y → b ≡ bad-sample (toZ w32 (ofZ w32 y)) → b ≡ bad-sample y
+handed y f e = e ∙ ap bad-sample (toZ-ofZ f)
 
 bounded : (ys : List ℤ) (i : ℕ) → first-from bad-sample i ys ≡ none → Bounded 16777216 (plain ys)
 unfolding Bounded plain first-from

@@ -1,9 +1,6 @@
 -- `series::first_beyond` meets its contract: what is left to look through from k gives what is to be found.
 use borrow.Author.Needs.{needs}
 use mathlib.Core.Path.{_≡_, refl, sym, ap, _∙_}
-use mir.Facts.{toZ-ofZ}
-use mir.Syntax.{w32}
-use mir.Val.{SFits}
 use native.Mathlib.Numerals.{add-one}
 use native.Mathlib.Omega.{arith}
 use Prim.Native.Nat.{suc, _-_}
@@ -11,6 +8,7 @@ use lib.ListN.{length, getD, drop}
 use lib.IntN.{pos}
 use Rattle.series.specs.Search.{first-from}
 use Rattle.series.specs.Limits.{bad-sample}
+use Rattle.series.proofs.LimitsLaws.{handed}
 use Rattle.series.proofs.SearchLaws.{next, past}
 use Rattle.series.proofs.first_beyond.Statement.{statement}
 use Rattle.series.proofs.first_beyond.Tie as tie
@@ -36,11 +34,7 @@ beyond-requires c κs = search needs
 -- what the test says of the sample
 told : (c : tie.After-beyond Inv-loop μ-loop) → let a = c .before .before .before in
     c .beyond .result ≡ bad-sample (getD (a .before .args .samples .now) (a .loop .k) (pos 0))
-told c =
-    let a = c .before .before .before in
-    let y = getD (a .before .args .samples .now) (a .loop .k) (pos 0) in
-    let f : SFits w32 y = record { sfits = c .before .beyond-arg .given } in
-    c .beyond .ensures ∙ ap bad-sample (toZ-ofZ f)
+told c = let a = c .before .before .before in handed (getD (a .before .args .samples .now) (a .loop .k) (pos 0)) (record { sfits = c .before .beyond-arg .given }) (c .beyond .ensures)
 
 add-result : tie.Need-add-result Inv-loop μ-loop
 add-result c = omega arith

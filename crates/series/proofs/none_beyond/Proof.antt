@@ -1,9 +1,6 @@
 -- `series::none_beyond` meets its contract: what was seen so far, and what is left to look through from k, give what is to be said.
 use borrow.Author.Needs.{needs}
 use mathlib.Core.Path.{_≡_, refl, sym, ap, _∙_}
-use mir.Facts.{toZ-ofZ}
-use mir.Syntax.{w32}
-use mir.Val.{SFits}
 use mathlib.Core.Logic.{⊎-elim}
 use mathlib.Core.Bool.{Bool, true, false, _&&_}
 use mathlib.Core.Option.{Option}
@@ -15,6 +12,7 @@ use lib.IntN.{pos}
 use Rattle.optimality.specs.Search.{found}
 use Rattle.series.specs.Search.{first-from, first, is-none}
 use Rattle.series.specs.Limits.{bad-sample}
+use Rattle.series.proofs.LimitsLaws.{handed}
 use Rattle.series.proofs.SearchLaws.{next, past}
 use Rattle.series.proofs.none_beyond.Statement.{statement}
 use Rattle.series.proofs.none_beyond.Tie as tie
@@ -49,11 +47,7 @@ beyond-requires c κs = search needs
 -- what the test says of the sample
 told : (c : tie.After-beyond Inv-loop μ-loop) → let a = c .before .before .before in
     c .beyond .result ≡ bad-sample (getD (a .before .args .samples .now) (a .loop .k) (pos 0))
-told c =
-    let a = c .before .before .before in
-    let y = getD (a .before .args .samples .now) (a .loop .k) (pos 0) in
-    let f : SFits w32 y = record { sfits = c .before .beyond-arg .given } in
-    c .beyond .ensures ∙ ap bad-sample (toZ-ofZ f)
+told c = let a = c .before .before .before in handed (getD (a .before .args .samples .now) (a .loop .k) (pos 0)) (record { sfits = c .before .beyond-arg .given }) (c .beyond .ensures)
 
 add-k : tie.Need-add-k Inv-loop μ-loop
 add-k c = omega arith
