@@ -9,7 +9,7 @@
 #include <time.h>
 
 #include <dawhikura.h>
-#include "../tests/paper.h"
+#include "../tests/reference.h"
 #include "../tests/random.h"
 #include "baselines.h"
 
@@ -101,7 +101,7 @@ static int64_t draw(int method)
     case CLANG: return (int64_t)steps_clang(y, n, (int64_t)lambda, other.length, other.total);
 #endif
     case CC: return (int64_t)steps_cc(y, n, (int64_t)lambda, other.length, other.total);
-    case STRING: paper_line_long(y, n, lambda, &other); return (int64_t)other.n;
+    case STRING: reference_line_long(y, n, lambda, &other); return (int64_t)other.n;
     default: condat_double(yd, xd, n, (double)lambda); return 0;
     }
 }
@@ -192,8 +192,8 @@ static void judge_sheet(int task, int64_t r)
 static void sheet_rows(void)
 {
     double best[TASKS];
-    bare_size = paper_sheet(bare, y, n, lambda, NULL);
-    whole_size = paper_sheet(whole, y, n, lambda, &line);
+    bare_size = reference_sheet(bare, y, n, lambda, NULL);
+    whole_size = reference_sheet(whole, y, n, lambda, &line);
     measure(TASKS, handle, judge_sheet, best);
     for (int i = DRAW; i < TASKS; i++) {
         print_name(names[i]);

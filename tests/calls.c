@@ -69,13 +69,13 @@ static void begin(void)
     uint64_t state = 12345;
     for (size_t i = 0; i < MOST; i++)
         y[i] = random_sample(&state, 1);
-    paper_line_long(y, MOST, 50, &line);
+    reference_line_long(y, MOST, 50, &line);
     for (size_t s = 0; s < line.n; s++) {
         records[s].length = line.length[s];
         records[s].total = line.total[s];
     }
-    whole_size = paper_sheet(whole, y, MOST, 50, &line);
-    bare_size = paper_sheet(bare, y, MOST, 50, NULL);
+    whole_size = reference_sheet(whole, y, MOST, 50, &line);
+    bare_size = reference_sheet(bare, y, MOST, 50, NULL);
     list_calls(&first);
     sheet_calls(&first);
     i64 m = (i64)line.n, size = (i64)whole_size, want[] = {m, MOST, 0, 0, m, 0, size, m, refusal(5, 0), size, size};
@@ -100,7 +100,7 @@ static void nothing(void)
     uint8_t sheet[64], out[64];
     static Line of_two;
     set_line(&of_two, n, t, 2);
-    size_t size = paper_sheet(sheet, s, 2, 1, &of_two);
+    size_t size = reference_sheet(sheet, s, 2, 1, &of_two);
     i64 none = refusal(1, 0), few = refusal(5, 0), shape = refusal(6, 0), cut = refusal(10, 0);
 
     answers("dawhikura_series_line", dawhikura_series_line(s, 2, 1, a, 2, u, 2), 2);

@@ -64,7 +64,7 @@ static i64 compare_check(const int32_t *y, size_t n, uint64_t lambda, const uint
     static dawhikura_segment segments[MOST];
     handed = (Handed){.call = "dawhikura_series_check", .y = y, .minutes = n, .lambda = lambda, .length = length, .lengths = lengths,
                       .total = total, .totals = totals};
-    i64 expected = paper_check(y, n, lambda, length, lengths, total, totals);
+    i64 expected = reference_check(y, n, lambda, length, lengths, total, totals);
     checks++;
     passed += expected == 0;
     judge(expected, dawhikura_series_check(hand(y, 4 * n), n, lambda, hand(length, 4 * lengths), lengths, hand(total, 8 * totals), totals));
@@ -152,7 +152,7 @@ static void compare_short(const int32_t *y, size_t n, uint64_t lambda, const Lin
 {
     static Line tried;
     hand_series("every pattern", y, n, lambda, line);
-    if (!paper_line_short(y, n, lambda, &tried) || !same_line(&tried, line))
+    if (!reference_line_short(y, n, lambda, &tried) || !same_line(&tried, line))
         fail("another line");
     compare_all(y, n, lambda, line, rounds);
 }
@@ -179,7 +179,7 @@ static void exhaustive(void)
             for (size_t i = 0; i < n; i++, rest /= 4)
                 y[i] = values[rest % 4];
             for (size_t l = 0; l < 5; l++) {
-                paper_line_long(y, n, lambdas[l], &want);
+                reference_line_long(y, n, lambdas[l], &want);
                 compare_short(y, n, lambdas[l], &want, 2);
             }
         }
@@ -198,10 +198,10 @@ static void far_samples(void)
         for (int f = 0; f < 4; f++)
             for (int k = 0; k < 9; k++) {
                 int32_t y[] = {0, 0, 0, 9, 9, 9, 0, 0, 0};
-                paper_line_long(y, 9, lambdas[l], &want);
+                reference_line_long(y, 9, lambdas[l], &want);
                 y[k] = far[f];
                 compare_checks(y, 9, lambdas[l], &want, refusal(3, k + 1), 20);
-                paper_line_long(y, 9, lambdas[l], &want);
+                reference_line_long(y, 9, lambdas[l], &want);
                 compare_checks(y, 9, lambdas[l], &want, refusal(3, k + 1), 20);
             }
 }
@@ -235,7 +235,7 @@ static void long_series(void)
             for (size_t i = 0; i < n; i++)
                 y[i] = sample(kind, i, n);
             for (size_t l = 0; l < sizeof lambdas / sizeof lambdas[0]; l++) {
-                paper_line_long(y, n, lambdas[l], &want);
+                reference_line_long(y, n, lambdas[l], &want);
                 compare_all(y, n, lambdas[l], &want, 3);
                 size_t k = next() % n;
                 int32_t was = y[k];

@@ -5,7 +5,7 @@
 #ifndef HARNESS_H
 #define HARNESS_H
 
-#include "paper.h"
+#include "reference.h"
 
 extern size_t guard;
 

@@ -38,7 +38,7 @@ static i64 compare_read(const uint8_t *sheet, size_t size, const size_t room[4])
     i64 *totals = lend(8 * room[2]);
     uint64_t *fields = lend(8 * room[3]);
     const uint8_t *in = hand(sheet, size);
-    i64 want = paper_read(sheet, size, y, &line);
+    i64 want = reference_read(sheet, size, y, &line);
     if (want == 0) {
         uint64_t three[] = {get(sheet, 4), line.n, get(sheet + 16, 8)};
         if (room[0] < three[0] || room[1] < three[0] || room[2] < three[0] || room[3] < 3)
@@ -72,10 +72,10 @@ static i64 compare_write(const int32_t *y, size_t n, uint64_t lambda, const uint
     const int32_t *y_in = hand(y, 4 * n);
     const uint32_t *length_in = hand(length, 4 * lengths);
     const i64 *total_in = hand(total, 8 * totals);
-    i64 want = paper_judge(y, n, lambda, length, lengths, total, totals);
+    i64 want = reference_filed(y, n, lambda, length, lengths, total, totals);
     if (want == 0) {
         set_line(&line, length, total, lengths);
-        want = (i64)paper_sheet(sheet, y, n, lambda, &line);
+        want = (i64)reference_sheet(sheet, y, n, lambda, &line);
         if (room < (size_t)want)
             want = refusal(5, 0);
         else
@@ -95,7 +95,7 @@ static i64 compare_segments(size_t n, const uint32_t *length, size_t lengths, co
     double *levels = lend(8 * room[2]);
     const uint32_t *length_in = hand(length, 4 * lengths);
     const i64 *total_in = hand(total, 8 * totals);
-    i64 want = paper_shape(n, length, lengths, total, totals);
+    i64 want = reference_shape(n, length, lengths, total, totals);
     if (want == 0 && (room[0] < lengths || room[1] < lengths || room[2] < lengths))
         want = refusal(5, 0);
     if (want == 0) {
@@ -103,7 +103,7 @@ static i64 compare_segments(size_t n, const uint32_t *length, size_t lengths, co
         for (size_t s = 0; s < lengths; s++) {
             first[s] = minute + 1;
             last[s] = minute += length[s];
-            level[s] = paper_plot(length[s], total[s]);
+            level[s] = reference_plot(length[s], total[s]);
         }
         expect(0, first, 4 * lengths);
         expect(1, last, 4 * lengths);
@@ -123,7 +123,7 @@ static i64 compare_mark(size_t n, const uint32_t *length, size_t lengths, const 
     double *levels = lend(8 * room);
     const uint32_t *length_in = hand(length, 4 * lengths);
     const i64 *total_in = hand(total, 8 * totals);
-    i64 want = paper_mark(n, length, lengths, total, totals, minute, level);
+    i64 want = reference_mark(n, length, lengths, total, totals, minute, level);
     if (want >= 0 && room < 2)
         want = refusal(5, 0);
     if (want >= 0)
@@ -158,7 +158,7 @@ static void everywhere(const int32_t *y, size_t n, uint64_t lambda, const Line *
     static i64 totals[MOST];
     uint64_t fields[3];
     for (int with = 0; with < 2; with++) {
-        size_t m = with ? line->n : 0, size = paper_sheet(sheet, y, n, lambda, with ? line : NULL);
+        size_t m = with ? line->n : 0, size = reference_sheet(sheet, y, n, lambda, with ? line : NULL);
         must(compare_write(y, n, lambda, line->length, m, line->total, m, size), (i64)size);
         must(compare_write(y, n, lambda, line->length, m, line->total, m, size - 1), refusal(5, 0));
         must(compare_write(y, n, lambda, line->length, m, line->total, m, size + 77), (i64)size);
@@ -286,7 +286,7 @@ static void reader_refusals(void)
             set_line(&line, j->length, j->total, j->lengths);
             series[2] = set & 1 << 9 ? -LIMIT - 1 : 9;
             memset(sheet, 0, 100);
-            size_t n = 4, size = paper_sheet(sheet, series, n, set & 1 << 8 ? SMOOTHEST + 1 : 1, &line), handed_over = size;
+            size_t n = 4, size = reference_sheet(sheet, series, n, set & 1 << 8 ? SMOOTHEST + 1 : 1, &line), handed_over = size;
             series[2] = 9;
             if (set & 1 << 7)
                 put(sheet + 28, 4, 1);
@@ -336,7 +336,7 @@ static void chart_refusals(void)
 }
 
 /* the examples of RULES 4.3 that are not among those */
-static void paper_refusals(void)
+static void reference_refusals(void)
 {
     static const size_t two[] = {2, 2, 2, 3};
     static const int32_t zeros[MOST + 1];
@@ -349,12 +349,12 @@ static void paper_refusals(void)
     must(compare_write((int32_t[]){3, 3}, 2, 0, (uint32_t[]){1, 1}, 2, (i64[]){3, 3}, 2, 64), refusal(8, 2));
     must(compare_write((int32_t[]){0, 10}, 2, 1, (uint32_t[]){1, 1}, 2, (i64[]){2, 8}, 2, 64), refusal(9, 1));
     must(compare_mark(2, (uint32_t[]){1, 1}, 2, (i64[]){1, 9}, 2, 3, 2), refusal(13, 0));
-    must(compare_read(sheet, paper_sheet(sheet, (int32_t[]){0, 10}, 2, 0, NULL), (size_t[]){1, 2, 2, 3}), refusal(5, 0));
+    must(compare_read(sheet, reference_sheet(sheet, (int32_t[]){0, 10}, 2, 0, NULL), (size_t[]){1, 2, 2, 3}), refusal(5, 0));
     put(sheet + 28, 4, 1);
     must(compare_read(sheet, 40, two), refusal(12, 28));
     /* 65,537 zeros, as a sheet */
     memset(sheet, 0, sizeof sheet);
-    must(compare_read(sheet, paper_sheet(sheet, zeros, MOST + 1, 0, NULL), two), refusal(2, 0));
+    must(compare_read(sheet, reference_sheet(sheet, zeros, MOST + 1, 0, NULL), two), refusal(2, 0));
 }
 
 /* ---- long series: a segment a minute, few segments, one */
@@ -371,7 +371,7 @@ static void long_series(void)
             case 2: y[i] = random_sample(&state, 3); break;
             default: y[i] = (int32_t)(i * 256) - LIMIT; /* a ramp */
             }
-        paper_line_long(y, MOST, lambda, &line);
+        reference_line_long(y, MOST, lambda, &line);
         must(kind == 1 ? line.n > 1 && line.n < 1000 : line.n == (kind == 2 ? 1 : MOST), 1);
         everywhere(y, MOST, lambda, &line);
         chart(MOST, &line, 16381);
@@ -379,7 +379,7 @@ static void long_series(void)
     for (size_t n = DAY; n <= DAY + 1; n++) { /* the most minutes in little memory, and one more */
         for (size_t i = 0; i < n; i++)
             y[i] = random_sample(&state, 1);
-        paper_line_long(y, n, 50, &line);
+        reference_line_long(y, n, 50, &line);
         everywhere(y, n, 50, &line);
         chart(n, &line, 97);
     }
@@ -436,7 +436,7 @@ static void random_sheets(void)
     for (int i = 0; i < 4; i++)
         room[i] = next() % (i < 3 ? n + 2 : 5);
     compare_read(sheet, size, room);
-    if (paper_read(sheet, size, y, &line) == 0) {
+    if (reference_read(sheet, size, y, &line) == 0) {
         uint64_t lambda = get(sheet + 16, 8);
         must(compare_write(y, n, lambda, line.length, line.n, line.total, line.n, size + next() % 3), (i64)size);
         must(dawhikura_sheet_write(y, n, lambda, line.length, line.n, line.total, line.n, other, size), (i64)size);
@@ -456,7 +456,7 @@ int main(int argc, char **argv)
     writer_refusals();
     reader_refusals();
     chart_refusals();
-    paper_refusals();
+    reference_refusals();
     for (seed = 1; seed <= count; seed++) {
         state = seed * 0x9e3779b97f4a7c15u;
         random_sheets();

@@ -34,7 +34,7 @@ static void compare(const uint8_t *s, size_t size, size_t room)
     handed = (Handed){.call = "dawhikura_sheet_complete", .sheet = s, .size = size, .room = {room}};
     uint8_t *out = lend(room);
     const uint8_t *in = hand(s, size);
-    i64 want = paper_complete(s, size, expected, room);
+    i64 want = reference_complete(s, size, expected, room);
     if (want > 0)
         expect(0, expected, (size_t)want);
     calls++;
@@ -44,7 +44,7 @@ static void compare(const uint8_t *s, size_t size, size_t room)
 /* with the output longer than it need be, exact, one byte short and shorter */
 static void compare_rooms(const uint8_t *s, size_t size)
 {
-    i64 r = paper_complete(s, size, expected, SHEET);
+    i64 r = reference_complete(s, size, expected, SHEET);
     if (r <= 0) {
         compare(s, size, size + next() % 500);
         return;

@@ -69,10 +69,14 @@ pub fn segments(
     lasts: &mut [u32],
     levels: &mut [f64],
 ) -> Filled
-    ensures answer { λ r. ⌜ filled r ≡ segmentsOf n (now (lengths .entry)) (now (totals .entry)) (now (firsts .entry)) (now (lasts .entry)) (now (levels .entry)) ⌝ }
-    ensures firsts { λ _. ⌜ now (firsts .exit) ≡ firstsOf n (now (lengths .entry)) (now (totals .entry)) (now (firsts .entry)) (now (lasts .entry)) (now (levels .entry)) ⌝ }
-    ensures lasts { λ _. ⌜ now (lasts .exit) ≡ lastsOf n (now (lengths .entry)) (now (totals .entry)) (now (firsts .entry)) (now (lasts .entry)) (now (levels .entry)) ⌝ }
-    ensures levels { λ _. ⌜ now (levels .exit) ≡ levelsOf n (now (lengths .entry)) (now (totals .entry)) (now (firsts .entry)) (now (lasts .entry)) (now (levels .entry)) ⌝ }
+    ensures answer { λ r. ⌜ filled r ≡ segmentsOf n (now (lengths .entry)) (now (totals .entry)) (now (firsts .entry)) (now (lasts .entry))
+        (now (levels .entry)) ⌝ }
+    ensures firsts { λ _. ⌜ now (firsts .exit) ≡ firstsOf n (now (lengths .entry)) (now (totals .entry)) (now (firsts .entry)) (now (lasts .entry))
+        (now (levels .entry)) ⌝ }
+    ensures lasts { λ _. ⌜ now (lasts .exit) ≡ lastsOf n (now (lengths .entry)) (now (totals .entry)) (now (firsts .entry)) (now (lasts .entry))
+        (now (levels .entry)) ⌝ }
+    ensures levels { λ _. ⌜ now (levels .exit) ≡ levelsOf n (now (lengths .entry)) (now (totals .entry)) (now (firsts .entry)) (now (lasts .entry))
+        (now (levels .entry)) ⌝ }
 {
     if let Checked::Refused(number, place) = checker::shape(n, lengths, totals) {
         return Filled::Refused(number, place);

@@ -25,13 +25,14 @@ use Rattle.optimality.specs.Segments.{total-length, Segment, then-v, by-divisor
 use Rattle.optimality.specs.PlainSeries.{segments}
 use Rattle.series.specs.Limits.{bad-sample}
 use Rattle.series.specs.Answer.{on-success}
+use Rattle.checker.specs.Fold.{level, fold}
 use Rattle.checker.specs.Shape.{equal-levels, equal-from}
 use Rattle.checker.specs.Outline.{paired, begin}
 use Rattle.checker.specs.Walk.{segment, halted, failed, sideOf, openedOf, turnedOf, crossed, enteredOf, advancedOf, heldOf, passedOf, minuteOf, unless-stopped, alongOf, proceedOf, followedOf, walk-start, stepOf, walkOf, broken}
 use Rattle.checker.specs.declared.dual_walk.Progress.{Progress}
 use Rattle.checker.specs.declared.walk.Walk.{Walk}
 use Rattle.series.proofs.SearchLaws.{none-found}
-use Rattle.checker.proofs.OutlineLaws.{level, AllValid, Outlined}
+use Rattle.checker.proofs.OutlineLaws.{AllValid, Outlined}
 use Rattle.checker.proofs.ShapeLaws.{pair}
 use Rattle.checker.proofs.EqualLevels.{unlike}
 use Rattle.checker.proofs.ValidLevels.{made-valid}
@@ -137,7 +138,7 @@ module _ (L : ℕ) (ys : List ℤ) where
 
       -- ---- along a line
       walk-stays : (ns : List ℕ) (ts : List ℤ) (w : Walk) (i : ℕ) → 0 < w .dual .stop → walkOf L ys w i ns ts .dual ≡ w .dual
-      unfolding walkOf
+      unfolding fold
       walk-stays [] ts w i h = refl
       walk-stays (n ∷ ns) [] w i h = refl
       walk-stays (n ∷ ns) (t ∷ ts) w i h = let e = stays (w .dual) _ h in walk-stays ns ts (stepOf L ys w (level n t) i) (suc i) (rw e h) ∙ e
@@ -153,7 +154,7 @@ module _ (L : ℕ) (ys : List ℤ) where
       walk-told : (ns : List ℕ) (ts : List ℤ) → length ns ≡ length ts → (w : Walk) (i j : ℕ) → Reached (w .dual) (segments ns ts) →
           Valid (w .outline .last) → AllValid ns ts →
           equal-from j (segment (w .outline .last) ∷ segments ns ts) ≡ none → broken (walkOf L ys w i ns ts .dual) ≡ told (w .outline .last) (w .dual) (segments ns ts)
-      unfolding walkOf segments from-turn AllValid equal-from total-length
+      unfolding fold segments from-turn AllValid equal-from total-length
       walk-told [] ts l w i j r v f u = refl
       walk-told (n ∷ ns) [] l w i j r v f u = absurd (omega arith)
       walk-told (n ∷ ns) (t ∷ ts) l w i j r v f u =
@@ -169,7 +170,7 @@ module _ (L : ℕ) (ys : List ℤ) where
       -- ---- of a whole line
       pub walk-breaks : (ns : List ℕ) (ts : List ℤ) → paired (length ns) (length ts) ≡ true → Outlined (length ys) ns ts →
           broken (walkOf L ys walk-start 1 ns ts .dual) ≡ first-break (pos L) (pos 0) (pos 0) (plain ys) (segments ns ts)
-      unfolding walkOf segments first-break AllValid total-length
+      unfolding fold segments first-break AllValid total-length
       walk-breaks [] ts p q = absurd (true≢false (sym p))
       walk-breaks (n ∷ ns) [] p q = absurd (omega (arith, pair (suc (length ns)) 0 (not-true _ p)))
       walk-breaks (n ∷ ns) (t ∷ ts) p q =

@@ -21,6 +21,7 @@ use Rattle.optimality.specs.Segments.{total-length}
 use Rattle.optimality.specs.PlainSeries.{segments}
 use Rattle.optimality.specs.Search.{found}
 use Rattle.series.specs.Search.{first-from, place-of}
+use Rattle.checker.specs.Fold.{level, fold}
 use Rattle.checker.specs.Shape.{empty, beyond, equal-levels, equal-from, well-shaped}
 use Rattle.checker.specs.Outline.{paired, noted, added, is-7, is-zero, over, alike, begin, joined, outlineOf, verdictOf}
 use Rattle.checker.specs.Walk.{segment}
@@ -29,9 +30,6 @@ use Rattle.series.proofs.SearchLaws.{none-found}
 use Rattle.checker.proofs.EqualLevels.{lower, equal, higher}
 use Rattle.checker.proofs.ShapeLaws.{pair}
 use Rattle.series.proofs.Refusals.{at-same, if-same, Alike, if-alike, at-alike}
-
-abbrev pub level : ℕ → ℤ → Level
-level n t = record { length = n; total = t }
 
 -- ---- places
 or : Option ℕ → Option ℕ → Option ℕ
@@ -52,7 +50,7 @@ or-noted (suc k) hit i rest = rw (lt-ltb 0 (suc k) (omega arith))
 -- ---- 6
 zeros : (ns : List ℕ) (ts : List ℤ) → length ns ≡ length ts → (o : Outline) (i : ℕ) →
     place-of (outlineOf o (suc i) ns ts .zero) ≡ or (place-of (o .zero)) (first-from empty (suc i) (segments ns ts))
-unfolding outlineOf first-from segments
+unfolding fold first-from segments
 zeros [] ts l o i = or-none (place-of (o .zero))
 zeros (n ∷ ns) [] l o i = absurd (omega arith)
 zeros (n ∷ ns) (t ∷ ts) l o i = zeros ns ts (omega arith) (joined o (level n t) (suc i)) (suc i) ∙ or-noted (o .zero) (eqb n 0) i (first-from empty (suc (suc i)) (segments ns ts))
@@ -71,7 +69,7 @@ stays n s m r h = go (ltb 65536 s) refl
 
 sums : (n : ℕ) → n ≤ 65536 → (ns : List ℕ) (ts : List ℤ) → length ns ≡ length ts → (o : Outline) (i : ℕ) →
     eqb (outlineOf o i ns ts .sum) n ≡ eqb (o .sum + total-length (segments ns ts)) n
-unfolding outlineOf total-length segments
+unfolding fold total-length segments
 sums n h [] ts l o i = ap (λ x. eqb x n) (omega arith)
 sums n h (m ∷ ns) [] l o i = absurd (omega arith)
 sums n h (m ∷ ns) (t ∷ ts) l o i = sums n h ns ts (omega arith) (joined o (level m t) i) (suc i) ∙ stays n (o .sum) m (total-length (segments ns ts)) h
@@ -98,7 +96,7 @@ over-is t h k = let z : t .length ≡ 0 → ⊥ = λ e. omega arith in rw (ne-eq
 
 beyonds : (ns : List ℕ) (ts : List ℤ) → length ns ≡ length ts → Short ns → (o : Outline) (i : ℕ) →
     place-of (outlineOf o (suc i) ns ts .beyond) ≡ or (place-of (o .beyond)) (first-from beyond (suc i) (segments ns ts))
-unfolding outlineOf first-from segments Short
+unfolding fold first-from segments Short
 beyonds [] ts l s o i = or-none (place-of (o .beyond))
 beyonds (n ∷ ns) [] l s o i = absurd (omega arith)
 beyonds (n ∷ ns) (t ∷ ts) l s o i =
@@ -130,7 +128,7 @@ alike-is s t h k =
 
 equals : (ns : List ℕ) (ts : List ℤ) → length ns ≡ length ts → (o : Outline) (i : ℕ) → Valid (o .last) → AllValid ns ts →
     place-of (outlineOf o (suc i) ns ts .equal) ≡ or (place-of (o .equal)) (equal-from i (segment (o .last) ∷ segments ns ts))
-unfolding outlineOf equal-from segments AllValid
+unfolding fold equal-from segments AllValid
 equals [] ts l o i v f = or-none (place-of (o .equal))
 equals (n ∷ ns) [] l o i v f = absurd (omega arith)
 equals (n ∷ ns) (t ∷ ts) l o i v f =
@@ -140,7 +138,7 @@ equals (n ∷ ns) (t ∷ ts) l o i v f =
 
 -- of a whole line: the first segment has no left neighbour
 all-equals : (ns : List ℕ) (ts : List ℤ) → length ns ≡ length ts → AllValid ns ts → place-of (outlineOf begin 1 ns ts .equal) ≡ equal-from 1 (segments ns ts)
-unfolding outlineOf equal-from segments AllValid or
+unfolding fold equal-from segments AllValid or
 all-equals [] ts l f = refl
 all-equals (n ∷ ns) [] l f = absurd (omega arith)
 all-equals (n ∷ ns) (t ∷ ts) l f = equals ns ts (omega arith) (joined begin (level n t) 1) 1 (f .0) (f .1)

@@ -10,6 +10,7 @@ use lib.IntN.{ℤ, pos}
 use lib.ListN.{length, getD, drop, length-map}
 use lib.Seq.{drop-cons, drop-length}
 use borrow.Author.Tests.{lt-ltb, eq-eqb, ne-eqb}
+use Rattle.checker.specs.Fold.{fold}
 use Rattle.checker.specs.Check.{checkOf}
 use Rattle.checker.specs.Outline.{paired}
 use Rattle.checker.specs.Records.{level-of, lengths-of, totals-of}
@@ -28,11 +29,11 @@ module _ (L : ℕ) (ys : List ℤ) (ss : List Segment) where
 
   pub turn : (k : ℕ) (w r : Walk) → k < length ss → r ≡ stepOf L ys w (level-of (getD ss k nil)) (k + 1) → left k w ≡ left 0 walk-start →
       left (k + 1) r ≡ left 0 walk-start
-  unfolding walkOf
+  unfolding fold
   turn k w r h e i = rw (add-one k, e ∙ ap (stepOf L ys w (level-of (getD ss k nil))) (add-one k)) (rw (drop-cons ss k nil h) at i)
 
   pub all : (w : Walk) → left (length ss) w ≡ left 0 walk-start → w ≡ walkOf L ys walk-start 1 (lengths-of ss) (totals-of ss)
-  unfolding walkOf
+  unfolding fold
   all w i = rw (drop-length ss) at i
 
 two : (a b : ℕ) → a ≡ b → paired (suc a) (suc b) ≡ true
@@ -40,7 +41,7 @@ two a b e = let n : suc a ≡ 0 → ⊥ = λ q. omega arith in rw (ne-eqb (suc a
 
 pub run-is : (L : ℕ) (ys : List ℤ) (ss : List Segment) →
     concludeOf ys L (ltb 0 (length ss)) (walkOf L ys walk-start 1 (lengths-of ss) (totals-of ss)) ≡ checkOf ys L (lengths-of ss) (totals-of ss)
-unfolding walkOf
+unfolding fold
 run-is L ys [] = unpaired-is ys L [] [] refl
 run-is L ys (s ∷ ss) =
     rw (lt-ltb 0 (suc (length ss)) (omega arith))

@@ -14,6 +14,7 @@ use Rattle.optimality.specs.Segments.{first-break}
 use Rattle.optimality.specs.PlainSeries.{segments}
 use Rattle.series.specs.Search.{first}
 use Rattle.series.specs.Limits.{bad-sample, in-limits}
+use Rattle.checker.specs.Fold.{level, fold}
 use Rattle.checker.specs.Shape.{well-shaped}
 use Rattle.checker.specs.Check.{checkOf}
 use Rattle.checker.specs.Outline.{paired, outlineOf, verdictOf}
@@ -21,7 +22,7 @@ use Rattle.checker.specs.Walk.{walk-start, stepOf, walkOf, settledOf, co
 use Rattle.checker.specs.declared.walk.Walk.{Walk}
 use Rattle.series.proofs.SearchLaws.{none-picked}
 use Rattle.series.proofs.Refusals.{if-same, at-same}
-use Rattle.checker.proofs.OutlineLaws.{level, unpaired, verdict-is}
+use Rattle.checker.proofs.OutlineLaws.{unpaired, verdict-is}
 use Rattle.checker.proofs.WalkReach.{walk-same}
 use Rattle.checker.proofs.BreakLaws.{walk-breaks}
 
@@ -42,8 +43,8 @@ module _ {A : Type 0} (ys : List ℤ) (L : ℕ) {o : Option ℕ} (x y : Answer A
 
 -- the walk tells the outline, whatever the series
 module _ (ys : List ℤ) (L : ℕ) where
-  pub outline-is : (ns : List ℕ) (ts : List ℤ) (w : Walk) (i : ℕ) → walkOf L ys w i ns ts .outline ≡ outlineOf (w .outline) i ns ts
-  unfolding walkOf outlineOf
+  outline-is : (ns : List ℕ) (ts : List ℤ) (w : Walk) (i : ℕ) → walkOf L ys w i ns ts .outline ≡ outlineOf (w .outline) i ns ts
+  unfolding fold
   outline-is [] ts w i = refl
   outline-is (n ∷ ns) [] w i = refl
   outline-is (n ∷ ns) (t ∷ ts) w i = outline-is ns ts (stepOf L ys w (level n t) i) (suc i)

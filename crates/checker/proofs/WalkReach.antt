@@ -18,6 +18,7 @@ use Rattle.optimality.specs.Search.{found}
 use Rattle.series.specs.Search.{first-from}
 use Rattle.series.specs.Limits.{bad-sample}
 use Rattle.series.specs.Answer.{on-success}
+use Rattle.checker.specs.Fold.{fold}
 use Rattle.checker.specs.Walk.{halted, failed, sideOf, openedOf, turnedOf, crossed, enteredOf, advancedOf, minuteOf, unless-stopped, alongOf, proceedOf, followedOf, stepOf, walkOf}
 use Rattle.checker.specs.declared.dual_walk.Progress.{Progress}
 use Rattle.checker.specs.declared.walk.Walk.{Walk}
@@ -119,7 +120,7 @@ module _ (L : ℕ) (ys : List ℤ) where
           record { far = λ z. p .far z ∙ ap (λ k. k + t .length) e; same = p .same ∙ ap (λ k. first-from bad-sample (suc k) (drop k ys)) e }
 
   pub walk-same : (ns : List ℕ) (ts : List ℤ) (w : Walk) (i : ℕ) → ahead (walkOf L ys w i ns ts .dual) ≡ ahead (w .dual)
-  unfolding walkOf
+  unfolding fold
   walk-same [] ts w i = refl
   walk-same (n ∷ ns) [] w i = refl
   walk-same (n ∷ ns) (t ∷ ts) w i = let l : Level = record { length = n; total = t } in walk-same ns ts (stepOf L ys w l i) (suc i) ∙ followed-passed (w .dual) (w .outline .last) l .same

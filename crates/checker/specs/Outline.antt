@@ -1,6 +1,6 @@
 -- How a line's shape is told segment by segment. OutlineLaws.antt of proofs/ has that this is `well-shaped`.
 use mathlib.Core.Bool.{Bool, true, false, not, cond, _||_}
-use mathlib.Core.List.{List, [], _∷_}
+use mathlib.Core.List.{List}
 use Prim.Native.Nat.{ℕ, zero, suc, _+_}
 use lib.Dec.{eqb, ltb}
 use lib.IntN.{ℤ, pos, negsuc}
@@ -9,6 +9,7 @@ use Rattle.level.specs.Limits.{makeOf}
 use Rattle.level.specs.Order.{compareOf}
 use Rattle.level.specs.declared.Level.{Level}
 use Rattle.series.specs.Search.{place-of}
+use Rattle.checker.specs.Fold.{fold}
 use Rattle.checker.specs.declared.outline.Outline.{Outline}
 
 -- two lists of lengths a and b are of one length and not empty
@@ -50,10 +51,8 @@ joined o t place = record {
 }
 
 -- with the segments of two lists more, of which the first is number i
-unfoldable pub outlineOf : Outline → ℕ → List ℕ → List ℤ → Outline
-outlineOf o i [] ts = o
-outlineOf o i (n ∷ ns) [] = o
-outlineOf o i (n ∷ ns) (t ∷ ts) = outlineOf (joined o (record { length = n; total = t }) i) (suc i) ns ts
+abbrev pub outlineOf : Outline → ℕ → List ℕ → List ℤ → Outline
+outlineOf = fold joined
 
 abbrev pub verdictOf : {A : Type 0} → ℕ → Outline → Answer A → Answer A
 verdictOf n o rest =

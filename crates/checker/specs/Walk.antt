@@ -1,6 +1,6 @@
 -- How the dual of a line is told along it, beside the line's outline. BreakLaws.antt of proofs/ has that the place where it stops is `first-break`.
 use mathlib.Core.Bool.{Bool, true, false, not, cond}
-use mathlib.Core.List.{List, [], _∷_}
+use mathlib.Core.List.{List}
 use mathlib.Core.Option.{Option, none, some}
 use Prim.Native.Nat.{ℕ, zero, suc, _+_, _-_, _*_, _<_, _≤_}
 use lib.Dec.{eqb, ltb}
@@ -16,6 +16,7 @@ use Rattle.level.specs.declared.Level.{Level}
 use Rattle.series.specs.Search.{first-from}
 use Rattle.series.specs.Limits.{bad-sample}
 use Rattle.series.specs.Answer.{on-success}
+use Rattle.checker.specs.Fold.{fold}
 use Rattle.checker.specs.Outline.{begin, joined, verdictOf}
 use Rattle.checker.specs.declared.dual_walk.Progress.{Progress}
 use Rattle.checker.specs.declared.walk.Walk.{Walk}
@@ -97,10 +98,8 @@ walk-start = record { outline = begin; dual = record { at = 0; v = pos 0; stop =
 abbrev pub stepOf : ℕ → List ℤ → Walk → Level → ℕ → Walk
 stepOf L ys w t place = record { outline = joined (w .outline) t place; dual = followedOf L ys (w .dual) (w .outline .last) t }
 
-unfoldable pub walkOf : ℕ → List ℤ → Walk → ℕ → List ℕ → List ℤ → Walk
-walkOf L ys w i [] ts = w
-walkOf L ys w i (n ∷ ns) [] = w
-walkOf L ys w i (n ∷ ns) (t ∷ ts) = walkOf L ys (stepOf L ys w (record { length = n; total = t }) i) (suc i) ns ts
+abbrev pub walkOf : ℕ → List ℤ → Walk → ℕ → List ℕ → List ℤ → Walk
+walkOf L ys = fold (stepOf L ys)
 
 -- the first minute that breaks (6) or (7), where the line ends with d
 abbrev pub broken : Progress → Option ℕ

@@ -34,10 +34,7 @@ pub fn shape(n: usize, lengths: &[u32], totals: &[i64]) -> Checked
     if !paired(lengths.len(), totals.len()) {
         return Checked::Refused(6, 0);
     }
-    // no samples: the outline alone is told
-    let none = [0i32; 0];
-    let w = walk::whole(&none, 0, lengths, totals);
-    outline::verdict(n, w.outline)
+    outline::verdict(n, outline::whole(lengths, totals))
 }
 
 // 1, 2, 4, 3 for the series and its smoothing, 6, 7 and 8 for the line, then 9 where (6) or (7) is broken. One pass over the samples.

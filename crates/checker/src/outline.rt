@@ -1,8 +1,9 @@
 // The shape of a line, told segment by segment: what refusals 6, 7 and 8 want to know. A place of 0 is none.
 
 ghost use mathlib.Core.Path.{_≡_};
+ghost use lib.ListN.{length};
 ghost use Rattle.series.specs.Answer.{checked};
-ghost use Rattle.checker.specs.Outline.{noted, added, over, alike, begin, joined, verdictOf};
+ghost use Rattle.checker.specs.Outline.{noted, added, over, alike, begin, joined, outlineOf, verdictOf};
 ghost use Rattle.level.specs.Answer.{given};
 use level::Compared;
 use level::Level;
@@ -54,6 +55,21 @@ pub(crate) fn join(o: Outline, t: Level, place: usize) -> Outline
         equal,
         last: t,
     }
+}
+
+pub(crate) fn whole(lengths: &[u32], totals: &[i64]) -> Outline
+    requires { ⌜ length (now lengths) ≡ length (now totals) ⌝ }
+    ensures { λ r. ⌜ r ≡ outlineOf begin 1 (now (lengths .entry)) (now (totals .entry)) ⌝ }
+{
+    let mut o = start();
+    let mut k = 0;
+    while k < lengths.len() {
+        let length = lengths[k];
+        let total = totals[k];
+        k += 1;
+        o = join(o, Level { length, total }, k);
+    }
+    o
 }
 
 // 6, 7 and 8, for a series of n minutes.

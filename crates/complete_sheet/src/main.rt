@@ -184,8 +184,10 @@ fn answer(
 ) -> usize
     requires { ⌜ 65536 ≤ length (now out) ⌝ }
     requires { ⌜ length (now samples) ≤ 1024 ⌝ }
-    ensures { λ r. ⌜ r ≡ length (answer-text (now (sheet .entry)) (readOf (now (sheet .entry)) (now (samples .entry)) (now (lengths .entry)) (now (totals .entry)))) ⌝ }
-    ensures { λ _. ⌜ now (out .exit) ≡ overwrite (now (out .entry)) 0 (answer-text (now (sheet .entry)) (readOf (now (sheet .entry)) (now (samples .entry)) (now (lengths .entry)) (now (totals .entry)))) ⌝ }
+    ensures { λ r. ⌜ r ≡ length
+        (answer-text (now (sheet .entry)) (readOf (now (sheet .entry)) (now (samples .entry)) (now (lengths .entry)) (now (totals .entry)))) ⌝ }
+    ensures { λ _. ⌜ now (out .exit) ≡ overwrite (now (out .entry)) 0
+        (answer-text (now (sheet .entry)) (readOf (now (sheet .entry)) (now (samples .entry)) (now (lengths .entry)) (now (totals .entry)))) ⌝ }
 {
     match sheet::read(sheet, samples, lengths, totals) {
         Reading::Refused(number, place) => put_refusal(out, number, place),

@@ -25,9 +25,11 @@ pub fn line(samples: &[i32], smoothing: u64, lengths: &mut [u32], totals: &mut [
     ensures answer { λ r. ⌜ drawn r ≡ lineOf (now (samples .entry)) smoothing (now (lengths .entry)) (now (totals .entry)) ⌝ }
     ensures lengths { λ r. ⌜ now (lengths .exit) ≡ lengthsOf (now (samples .entry)) smoothing (now (lengths .entry)) (now (totals .entry)) ⌝ }
     ensures totals { λ r. ⌜ now (totals .exit) ≡ totalsOf (now (samples .entry)) smoothing (now (lengths .entry)) (now (totals .entry)) ⌝ }
-    ensures meets { λ r. ⌜ when-given (drawn r) (λ m. Meets (now (samples .entry)) smoothing (segments (take m (now (lengths .exit))) (take m (now (totals .exit))))) ⌝ }
+    ensures meets { λ r. ⌜ when-given (drawn r)
+        (λ m. Meets (now (samples .entry)) smoothing (segments (take m (now (lengths .exit))) (take m (now (totals .exit))))) ⌝ }
     ensures only { λ r. ⌜ when-given (drawn r) (λ m. Only (now (samples .entry)) smoothing (take m (now (lengths .exit))) (take m (now (totals .exit)))) ⌝ }
-    ensures least { λ r. ⌜ when-given (drawn r) (λ m. Least (now (samples .entry)) smoothing (segments (take m (now (lengths .exit))) (take m (now (totals .exit))))) ⌝ }
+    ensures least { λ r. ⌜ when-given (drawn r)
+        (λ m. Least (now (samples .entry)) smoothing (segments (take m (now (lengths .exit))) (take m (now (totals .exit))))) ⌝ }
 {
     match series::limits(samples, smoothing) {
         Checked::Refused(number, place) => {

@@ -28,7 +28,8 @@ pub struct Dual {
 pub(crate) fn trace(samples: &[i32], smoothing: u64, out: &mut [i64])
     requires { ⌜ Limited (now samples) smoothing ⌝ }
     requires { ⌜ length (now samples) ≤ length (now out) ⌝ }
-    ensures { λ _. ⌜ now (out .exit) ≡ refill (duals (pos 0) (plain (now (samples .entry))) (plain-line (pos smoothing) (now (samples .entry)))) (now (out .entry)) ⌝ }
+    ensures { λ _. ⌜ now (out .exit) ≡ refill (duals (pos 0) (plain (now (samples .entry))) (plain-line (pos smoothing) (now (samples .entry))))
+        (now (out .entry)) ⌝ }
 {
     let mut m = Origin { i: 0, u: 0 };
     let mut r = steps::begin(samples, smoothing, m);

@@ -1,7 +1,7 @@
 // The limits of a series and of its smoothing, and the answer to a test of them.
 
 ghost use mathlib.Core.Path.{_≡_};
-ghost use Prim.Native.Nat.{suc, _<_};
+ghost use Prim.Native.Nat.{suc};
 ghost use lib.ListN.{drop};
 ghost use Rattle.level.specs.Answer.{given};
 ghost use Rattle.series.specs.Search.{place-of, first-from, first, is-none};

@@ -13,7 +13,8 @@ pub(crate) fn check_filed(
     lengths: &[u32],
     totals: &[i64],
 ) -> Checked
-    ensures { λ r. ⌜ checked r ≡ in-limits (now (samples .entry)) smoothing (filed (now (samples .entry)) smoothing (now (lengths .entry)) (now (totals .entry)) (given tt)) ⌝ }
+    ensures { λ r. ⌜ checked r ≡ in-limits (now (samples .entry)) smoothing
+        (filed (now (samples .entry)) smoothing (now (lengths .entry)) (now (totals .entry)) (given tt)) ⌝ }
 {
     if lengths.len() == 0 {
         if totals.len() == 0 {

@@ -82,7 +82,8 @@ fn line(f: Fields, ys: &[i32], ns: &mut [u32], ts: &mut [i64]) -> Drawn
     requires { ⌜ f .segments ≤ length (now ys) ⌝ }
     requires { ⌜ length (now ys) ≤ length (now ns) ⌝ }
     requires { ⌜ length (now ys) ≤ length (now ts) ⌝ }
-    ensures { λ r. ⌜ drawn r ≡ in-limits (now (ys .entry)) (f .smoothing) (filed (now (ys .entry)) (f .smoothing) (take (f .segments) (now (ns .entry))) (take (f .segments) (now (ts .entry)))
+    ensures { λ r. ⌜ drawn r ≡ in-limits (now (ys .entry)) (f .smoothing)
+        (filed (now (ys .entry)) (f .smoothing) (take (f .segments) (now (ns .entry))) (take (f .segments) (now (ts .entry)))
         (given (length (plain-line (pos (f .smoothing)) (now (ys .entry)))))) ⌝ }
     ensures { λ r. ⌜ when-given (drawn r) (λ m. Has (plain-line (pos (f .smoothing)) (now (ys .entry))) m (now (ns .exit)) (now (ts .exit))) ⌝ }
 {

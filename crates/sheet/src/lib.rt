@@ -35,7 +35,9 @@ pub fn read(sheet: &[u8], samples: &mut [i32], lengths: &mut [u32], totals: &mut
     ensures samples { λ r. ⌜ now (samples .exit) ≡ samplesAfter (now (sheet .entry)) (now (samples .entry)) (now (lengths .entry)) (now (totals .entry)) ⌝ }
     ensures lengths { λ r. ⌜ now (lengths .exit) ≡ lengthsAfter (now (sheet .entry)) (now (samples .entry)) (now (lengths .entry)) (now (totals .entry)) ⌝ }
     ensures totals { λ r. ⌜ now (totals .exit) ≡ totalsAfter (now (sheet .entry)) (now (samples .entry)) (now (lengths .entry)) (now (totals .entry)) ⌝ }
-    ensures meets { λ r. ⌜ when-given (headed r) (λ f. 0 < f .segments → Meets (take (f .minutes) (now (samples .exit))) (f .smoothing) (segments (take (f .segments) (now (lengths .exit))) (take (f .segments) (now (totals .exit))))) ⌝ }
+    ensures meets { λ r. ⌜ when-given (headed r) (λ f. 0 < f .segments →
+        Meets (take (f .minutes) (now (samples .exit))) (f .smoothing)
+        (segments (take (f .segments) (now (lengths .exit))) (take (f .segments) (now (totals .exit))))) ⌝ }
 {
     match header::read_header(sheet) {
         Reading::Refused(number, place) => Reading::Refused(number, place),
@@ -69,10 +71,16 @@ pub fn write(
 pub fn complete(sheet: &[u8], out: &mut [u8]) -> Written
     ensures answer { λ r. ⌜ written r ≡ completeOf (now (sheet .entry)) (now (out .entry)) ⌝ }
     ensures out { λ r. ⌜ now (out .exit) ≡ completedAfter (now (sheet .entry)) (now (out .entry)) ⌝ }
-    ensures same { λ r. ⌜ when-given (written r) (λ b. (samples (take b (now (out .exit))) ≡ samples (now (sheet .entry))) × (smoothing (take b (now (out .exit))) ≡ smoothing (now (sheet .entry)))) ⌝ }
-    ensures meets { λ r. ⌜ when-given (written r) (λ b. Meets (samples (now (sheet .entry))) (smoothing (now (sheet .entry))) (filed-line (take b (now (out .exit))))) ⌝ }
-    ensures only { λ r. ⌜ when-given (written r) (λ b. Only (samples (now (sheet .entry))) (smoothing (now (sheet .entry))) (lengths (take b (now (out .exit)))) (totals (take b (now (out .exit))))) ⌝ }
-    ensures least { λ r. ⌜ when-given (written r) (λ b. Least (samples (now (sheet .entry))) (smoothing (now (sheet .entry))) (filed-line (take b (now (out .exit))))) ⌝ }
+    ensures same { λ r. ⌜ when-given (written r) (λ b.
+        (samples (take b (now (out .exit))) ≡ samples (now (sheet .entry)))
+        × (smoothing (take b (now (out .exit))) ≡ smoothing (now (sheet .entry)))) ⌝ }
+    ensures meets { λ r. ⌜ when-given (written r)
+        (λ b. Meets (samples (now (sheet .entry))) (smoothing (now (sheet .entry))) (filed-line (take b (now (out .exit))))) ⌝ }
+    ensures only { λ r. ⌜ when-given (written r)
+        (λ b. Only (samples (now (sheet .entry))) (smoothing (now (sheet .entry))) (lengths (take b (now (out .exit))))
+        (totals (take b (now (out .exit))))) ⌝ }
+    ensures least { λ r. ⌜ when-given (written r)
+        (λ b. Least (samples (now (sheet .entry))) (smoothing (now (sheet .entry))) (filed-line (take b (now (out .exit))))) ⌝ }
 {
     match header::read_header(sheet) {
         Reading::Refused(number, place) => Written::Refused(number, place),

@@ -20,7 +20,9 @@ pub(crate) fn put_sheet(
     requires { ⌜ length (now lengths) ≤ 65536 ⌝ }
     requires { ⌜ length (now lengths) ≡ length (now totals) ⌝ }
     ensures { λ r. ⌜ written r ≡ room (now (out .entry)) (size (length (now (samples .entry))) (length (now (lengths .entry)))) ⌝ }
-    ensures { λ r. ⌜ now (out .exit) ≡ on-success (written r) (refill (sheet-bytes (now (samples .entry)) smoothing (now (lengths .entry)) (now (totals .entry))) (now (out .entry))) (now (out .entry)) ⌝ }
+    ensures { λ r. ⌜ now (out .exit) ≡ on-success (written r)
+        (refill (sheet-bytes (now (samples .entry)) smoothing (now (lengths .entry)) (now (totals .entry))) (now (out .entry)))
+        (now (out .entry)) ⌝ }
 {
     let bytes = 32 + 4 * samples.len() + 12 * lengths.len();
     if out.len() < bytes {

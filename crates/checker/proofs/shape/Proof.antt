@@ -6,10 +6,8 @@ use mathlib.Core.Bool.{true}
 use lib.ListN.{length}
 use Rattle.level.specs.Answer.{given}
 use Rattle.checker.specs.Outline.{paired, verdictOf}
-use Rattle.checker.specs.Walk.{walk-start}
 use Rattle.checker.proofs.OutlineLaws.{unpaired, verdict-is}
 use Rattle.checker.proofs.ShapeLaws.{pair}
-use Rattle.checker.proofs.WalkLaws.{outline-is}
 use Rattle.checker.proofs.shape.Statement.{statement}
 use Rattle.checker.proofs.shape.Tie as tie
 
@@ -30,24 +28,20 @@ returns-3 c =
 two : (c : tie.Else3) → let g = c .before .before .before .before .before .args in paired (length (g .lengths .now)) (length (g .totals .now)) ≡ true
 two c = sym (c .before .paired .ensures) ∙ not-false _ (c .if3 .left)
 
-slice-aggregate-whole : tie.Need-slice-aggregate-whole
-slice-aggregate-whole c = search needs
-
 whole-requires : tie.Need-whole-requires
-whole-requires c κs = pair _ _ (not-true _ (two (c .before)))
+whole-requires c κs = pair _ _ (not-true _ (two c))
 
 verdict-requires : tie.Need-verdict-requires
 verdict-requires c κs = search needs
 
 returns-4 : tie.Need-returns-4
 returns-4 c =
-    let e = c .before .before .before in
+    let e = c .before .before in
     let p = e .before in
     let g = p .before .before .before .before .args in
     rw (ne-eqb _ _ (p .before .before .if1 .left), le-ltb _ _ (p .before .if2 .left))
     (c .verdict .ensures
-    ∙ ap (λ w. verdictOf (g .n) (w .outline) (given tt)) (c .before .whole .ensures)
-    ∙ ap (λ o. verdictOf (g .n) o (given tt)) (outline-is _ 0 (g .lengths .now) (g .totals .now) walk-start 1)
+    ∙ ap (λ o. verdictOf (g .n) o (given tt)) (c .before .whole .ensures)
     ∙ verdict-is (g .n) (g .lengths .now) (g .totals .now) (p .before .if2 .left) (two e) (given tt) (given tt) (λ s. refl))
 
 pub shape-spec : {M : Type 1} → statement M
@@ -58,7 +52,6 @@ shape-spec =
     returns-2
     paired-requires
     returns-3
-    slice-aggregate-whole
     whole-requires
     verdict-requires
     returns-4)

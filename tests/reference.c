@@ -1,4 +1,4 @@
-#include "paper.h"
+#include "reference.h"
 
 #include <string.h>
 
@@ -24,7 +24,7 @@ i64 refusal(i64 number, i64 place)
 }
 
 /* ---- the check (RULES 5.5): 1, 2, 4, 3, 6, 7, 8, 9. Lists of unequal length are given by the count of totals */
-i64 paper_limits(const int32_t *y, size_t n, uint64_t lambda)
+i64 reference_limits(const int32_t *y, size_t n, uint64_t lambda)
 {
     if (n == 0)
         return refusal(1, 0);
@@ -44,7 +44,7 @@ static int order(uint32_t la, i64 ta, uint32_t lb, i64 tb)
     return (d > 0) - (d < 0);
 }
 
-i64 paper_shape(size_t n, const uint32_t *length, size_t lengths, const i64 *total, size_t totals)
+i64 reference_shape(size_t n, const uint32_t *length, size_t lengths, const i64 *total, size_t totals)
 {
     if (n == 0)
         return refusal(1, 0);
@@ -69,11 +69,11 @@ i64 paper_shape(size_t n, const uint32_t *length, size_t lengths, const i64 *tot
     return 0;
 }
 
-i64 paper_check(const int32_t *y, size_t n, uint64_t lambda, const uint32_t *length, size_t lengths, const i64 *total, size_t totals)
+i64 reference_check(const int32_t *y, size_t n, uint64_t lambda, const uint32_t *length, size_t lengths, const i64 *total, size_t totals)
 {
-    i64 r = paper_limits(y, n, lambda);
+    i64 r = reference_limits(y, n, lambda);
     if (!r)
-        r = paper_shape(n, length, lengths, total, totals);
+        r = reference_shape(n, length, lengths, total, totals);
     if (r)
         return r;
     /* u[k] as a fraction over the length of the segment that holds minute k; before a segment it is the whole u */
@@ -104,7 +104,7 @@ i64 paper_check(const int32_t *y, size_t n, uint64_t lambda, const uint32_t *len
 }
 
 /* ---- the line of a short series: the pattern of rises, falls and flats that meets the conditions; there must be just one */
-int paper_line_short(const int32_t *y, size_t n, uint64_t lambda, Line *out)
+int reference_line_short(const int32_t *y, size_t n, uint64_t lambda, Line *out)
 {
     int found = 0;
     size_t patterns = 1;
@@ -134,7 +134,7 @@ int paper_line_short(const int32_t *y, size_t n, uint64_t lambda, Line *out)
             sum = 0;
             length = 0;
         }
-        if (paper_check(y, n, lambda, c.length, c.n, c.total, c.n) == 0) {
+        if (reference_check(y, n, lambda, c.length, c.n, c.total, c.n) == 0) {
             /* without smoothing a rise and a fall give the same line */
             if (found && out->n == c.n && !memcmp(out->length, c.length, c.n * sizeof c.length[0]) && !memcmp(out->total, c.total, c.n * sizeof c.total[0]))
                 continue;
@@ -195,7 +195,7 @@ static void follow(Hull *one, Hull *other, i64 x, i64 z, int sign, Line *out)
     }
 }
 
-void paper_line_long(const int32_t *y, size_t n, uint64_t lambda, Line *out)
+void reference_line_long(const int32_t *y, size_t n, uint64_t lambda, Line *out)
 {
     static Hull floor, roof;
     floor.first = floor.last = roof.first = roof.last = 0;
@@ -266,7 +266,7 @@ void put(uint8_t *p, int width, uint64_t x)
         p[i] = (uint8_t)x;
 }
 
-size_t paper_sheet(uint8_t *out, const int32_t *y, size_t n, uint64_t lambda, const Line *line)
+size_t reference_sheet(uint8_t *out, const int32_t *y, size_t n, uint64_t lambda, const Line *line)
 {
     size_t m = line ? line->n : 0, size = 32 + 4 * n + 12 * m;
     put(out, 4, n);
@@ -285,7 +285,7 @@ size_t paper_sheet(uint8_t *out, const int32_t *y, size_t n, uint64_t lambda, co
     return size;
 }
 
-i64 paper_read(const uint8_t *s, size_t size, int32_t *y, Line *line)
+i64 reference_read(const uint8_t *s, size_t size, int32_t *y, Line *line)
 {
     if (size < 32)
         return refusal(10, 0);
@@ -311,32 +311,32 @@ i64 paper_read(const uint8_t *s, size_t size, int32_t *y, Line *line)
         line->length[i] = (uint32_t)get(s + 32 + 4 * n + 12 * i, 4);
         line->total[i] = (i64)get(s + 36 + 4 * n + 12 * i, 8);
     }
-    return m == 0 ? paper_limits(y, n, lambda) : paper_check(y, n, lambda, line->length, m, line->total, m);
+    return m == 0 ? reference_limits(y, n, lambda) : reference_check(y, n, lambda, line->length, m, line->total, m);
 }
 
-i64 paper_complete(const uint8_t *s, size_t size, uint8_t *out, size_t room)
+i64 reference_complete(const uint8_t *s, size_t size, uint8_t *out, size_t room)
 {
     static int32_t y[MOST];
     static Line line;
-    i64 r = paper_read(s, size, y, &line);
+    i64 r = reference_read(s, size, y, &line);
     if (r)
         return r;
     size_t n = get(s, 4);
     uint64_t lambda = get(s + 16, 8);
     if (line.n == 0)
-        paper_line_long(y, n, lambda, &line);
+        reference_line_long(y, n, lambda, &line);
     if (32 + 4 * n + 12 * line.n > room)
         return refusal(5, 0);
-    return (i64)paper_sheet(out, y, n, lambda, &line);
+    return (i64)reference_sheet(out, y, n, lambda, &line);
 }
 
-i64 paper_judge(const int32_t *y, size_t n, uint64_t lambda, const uint32_t *length, size_t lengths, const i64 *total, size_t totals)
+i64 reference_filed(const int32_t *y, size_t n, uint64_t lambda, const uint32_t *length, size_t lengths, const i64 *total, size_t totals)
 {
-    return lengths == 0 && totals == 0 ? paper_limits(y, n, lambda) : paper_check(y, n, lambda, length, lengths, total, totals);
+    return lengths == 0 && totals == 0 ? reference_limits(y, n, lambda) : reference_check(y, n, lambda, length, lengths, total, totals);
 }
 
 /* ---- the chart */
-double paper_plot(uint32_t length, i64 total)
+double reference_plot(uint32_t length, i64 total)
 {
     /* total times 2^e over length, e such that the quotient has 53 bits; length is at most 2^16 and total at most 2^40 */
     wide top = total < 0 ? -(wide)total : total;
@@ -356,9 +356,9 @@ double paper_plot(uint32_t length, i64 total)
     return total < 0 ? -level : level;
 }
 
-i64 paper_mark(size_t n, const uint32_t *length, size_t lengths, const i64 *total, size_t totals, size_t minute, double level[2])
+i64 reference_mark(size_t n, const uint32_t *length, size_t lengths, const i64 *total, size_t totals, size_t minute, double level[2])
 {
-    i64 r = paper_shape(n, length, lengths, total, totals);
+    i64 r = reference_shape(n, length, lengths, total, totals);
     if (r)
         return r;
     if (minute < 1 || minute > n)
@@ -368,8 +368,8 @@ i64 paper_mark(size_t n, const uint32_t *length, size_t lengths, const i64 *tota
     while (last < minute)
         last += length[++a];
     size_t b = minute == last && minute < n ? a + 1 : a;
-    level[0] = paper_plot(length[a], total[a]);
-    level[1] = paper_plot(length[b], total[b]);
+    level[0] = reference_plot(length[a], total[a]);
+    level[1] = reference_plot(length[b], total[b]);
     int way = order(length[a], total[a], length[b], total[b]);
     return way == 0 ? 0 : way < 0 ? 1 : 2;
 }

@@ -1,7 +1,7 @@
 /* Another implementation of docs/RULES.md, which shares nothing with the library: what the library is compared with. The taut string and the sheets also
  * serve the measurements of bench/. */
-#ifndef PAPER_H
-#define PAPER_H
+#ifndef REFERENCE_H
+#define REFERENCE_H
 
 #include <stddef.h>
 #include <stdint.h>
@@ -26,19 +26,19 @@ void set_line(Line *line, const uint32_t *length, const i64 *total, size_t n);
 i64 refusal(i64 number, i64 place);
 
 /* 1, 2, 4, 3, or 0 */
-i64 paper_limits(const int32_t *y, size_t n, uint64_t lambda);
+i64 reference_limits(const int32_t *y, size_t n, uint64_t lambda);
 
 /* the shape of a line of n minutes: 1, 2, 6, 7, 8, or 0 */
-i64 paper_shape(size_t n, const uint32_t *length, size_t lengths, const i64 *total, size_t totals);
+i64 reference_shape(size_t n, const uint32_t *length, size_t lengths, const i64 *total, size_t totals);
 
 /* the check: 1, 2, 4, 3, 6, 7, 8, 9, or 0 */
-i64 paper_check(const int32_t *y, size_t n, uint64_t lambda, const uint32_t *length, size_t lengths, const i64 *total, size_t totals);
+i64 reference_check(const int32_t *y, size_t n, uint64_t lambda, const uint32_t *length, size_t lengths, const i64 *total, size_t totals);
 
 /* the line of a series of at most 6 minutes: the one pattern of rises, falls and flats that passes the check; 0 where there is not just one */
-int paper_line_short(const int32_t *y, size_t n, uint64_t lambda, Line *out);
+int reference_line_short(const int32_t *y, size_t n, uint64_t lambda, Line *out);
 
 /* the line of any series, by a taut string, in linear time */
-void paper_line_long(const int32_t *y, size_t n, uint64_t lambda, Line *out);
+void reference_line_long(const int32_t *y, size_t n, uint64_t lambda, Line *out);
 
 /* the known lines of RULES 2.6 */
 enum { KNOWN = 13 };
@@ -71,22 +71,22 @@ uint64_t get(const uint8_t *p, int width);
 void put(uint8_t *p, int width, uint64_t x);
 
 /* the sheet of a series with this line, or with none for NULL; its number of bytes */
-size_t paper_sheet(uint8_t *out, const int32_t *y, size_t n, uint64_t lambda, const Line *line);
+size_t reference_sheet(uint8_t *out, const int32_t *y, size_t n, uint64_t lambda, const Line *line);
 
 /* what a sheet holds: 10, 1, 2, 11, 12, 4, 3, then 6 to 9 where a line is filed, or 0 */
-i64 paper_read(const uint8_t *s, size_t size, int32_t *y, Line *line);
+i64 reference_read(const uint8_t *s, size_t size, int32_t *y, Line *line);
 
 /* the sheet with its line, into `out` where there is room: the same refusals, then 5, or its number of bytes */
-i64 paper_complete(const uint8_t *s, size_t size, uint8_t *out, size_t room);
+i64 reference_complete(const uint8_t *s, size_t size, uint8_t *out, size_t room);
 
 /* whether these lists go into a sheet: 1, 2, 4, 3, then 6 to 9 unless both line lists are empty, or 0 */
-i64 paper_judge(const int32_t *y, size_t n, uint64_t lambda, const uint32_t *length, size_t lengths, const i64 *total, size_t totals);
+i64 reference_filed(const int32_t *y, size_t n, uint64_t lambda, const uint32_t *length, size_t lengths, const i64 *total, size_t totals);
 
 /* ---- the chart */
 /* total / length rounded once, to the nearest, ties to even: in whole numbers */
-double paper_plot(uint32_t length, i64 total);
+double reference_plot(uint32_t length, i64 total);
 
 /* the mark of a minute, 0 plain, 1 rise, 2 fall, with the two levels: 1, 2, 6, 7, 8, 13 */
-i64 paper_mark(size_t n, const uint32_t *length, size_t lengths, const i64 *total, size_t totals, size_t minute, double level[2]);
+i64 reference_mark(size_t n, const uint32_t *length, size_t lengths, const i64 *total, size_t totals, size_t minute, double level[2]);
 
 #endif
