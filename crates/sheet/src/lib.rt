@@ -16,7 +16,6 @@ use series::Checked;
 
 mod checking;
 mod completing;
-mod lists;
 mod reader;
 mod writer;
 

@@ -9,9 +9,10 @@ ghost use Rattle.layout.specs.HeadLaws.{InOrder};
 ghost use Rattle.sheet.specs.Read.{filed, with-room, readOf, samplesAfter, lengthsAfter, totalsAfter};
 use super::DAY;
 use super::checking;
-use super::lists;
 use layout::Fields;
 use layout::Reading;
+use layout::inner::copy_samples;
+use layout::inner::copy_segments;
 use layout::inner::decode;
 use series::Checked;
 use series::MINUTES;
@@ -138,7 +139,7 @@ fn fill(
     if totals.len() < ys.len() {
         return Reading::Refused(5, 0);
     }
-    lists::copy_samples(ys, samples);
-    lists::copy_segments(ns, ts, lengths, totals);
+    copy_samples(ys, samples);
+    copy_segments(ns, ts, lengths, totals);
     Reading::Valid(f)
 }
