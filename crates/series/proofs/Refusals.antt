@@ -5,6 +5,7 @@ use mathlib.Core.Option.{Option, none, some}
 use native.Mathlib.Omega.{arith}
 use Prim.Native.Nat.{ℕ}
 use Rattle.level.specs.Answer.{Answer, refused, given, refuse-if, refuse-at}
+use Rattle.series.specs.Answer.{on-success}
 
 pub never : {A X : Type 0} {number place : ℕ} {x : A} → refused number place ≡ given x → X
 never e = let z : _≡_ {A = ℕ} 0 1 = cc in absurd (omega arith)
@@ -54,6 +55,11 @@ module _ {A B : Type 0} {x a : Answer A} {y b : Answer B} where
   at-alike (some place) number r = stop number place
   at-alike none number r = r
 
+-- tests before tests
+pub alike-then : {A B : Type 0} {u x a : Answer A} {v y b : Answer B} → Alike x y a b → Alike u v x y → Alike u v a b
+alike-then (stop number place) r = stop number place
+alike-then pass r = r
+
 -- what the one says of the other
 pub stopped : {A B : Type 0} {x : A} {y b : Answer B} {a : Answer A} {number place : ℕ} → Alike (given x) y a b → a ≡ refused number place →
     b ≡ refused number place
@@ -63,6 +69,11 @@ stopped pass e = never (sym e)
 pub passed : {A B : Type 0} {x a : Answer A} {y b : Answer B} {z : A} → Alike x y a b → a ≡ given z → (x ≡ given z) × (b ≡ y)
 passed (stop number place) e = never e
 passed pass e = (e, refl)
+
+pub left-alike : {A B C : Type 0} {x : A} {y : B} {a : Answer A} {b : Answer B} → Alike (given x) (given y) a b → (new old : C) →
+    on-success a new old ≡ on-success b new old
+left-alike (stop number place) new old = refl
+left-alike pass new old = refl
 
 -- an answer, and what comes after it where it is no refusal
 abbrev pub then : {A : Type 0} → Answer (Unit {0}) → Answer A → Answer A
