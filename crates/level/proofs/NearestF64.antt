@@ -1,4 +1,4 @@
--- What is plotted is the f64 nearest to the level: within 2 ^ -30, no f64 nearer, of two equally near the even one. Everything is told in
+-- What is plotted is the f64 nearest to the level in seconds: within 2 ^ -33, no f64 nearer, of two equally near the even one. Everything is told in
 -- units of the smallest f64, 2 ^ 1074 to the one: `grid` is the rounded magnitude, and every f64 is n * 2 ^ j of them with n below 2 ^ 53.
 use mathlib.Core.Path.{_≡_, refl, sym, ap, ap₂, _∙_, subst}
 use mathlib.Core.List.{[], _∷_}
@@ -20,7 +20,7 @@ use Rattle.integers.specs.Linear.{int, dif, size as magnitude}
 use Rattle.integers.specs.Order.{le-or-lt, abs-neg}
 use Rattle.integers.specs.Ring.{ring, reify}
 use Rattle.level.specs.Limits.{Valid}
-use Rattle.level.specs.Plot.{negative, nearestTo, signed, den, distance, Even, NearestF64}
+use Rattle.level.specs.Plot.{negative, divisor, nearestTo, signed, den, distance, Even, NearestF64}
 use Rattle.level.specs.declared.Level.{Level}
 use Rattle.level.proofs.ClosestMultiple.{apart, apart-mul}
 use Rattle.level.proofs.Significand.{kept-half, kept-best, kept-small, one-f64, even-bits}
@@ -38,13 +38,13 @@ one-negative a l n d = ring (a ∷ l ∷ n ∷ d ∷ []) (search reify depth 20)
 other-negative : (a l n d : ℤ) → a *ℤ l -ℤ negℤ n *ℤ d ≡ a *ℤ l +ℤ n *ℤ d
 other-negative a l n d = ring (a ∷ l ∷ n ∷ d ∷ []) (search reify depth 20) refl
 
-same-sign : (s : Bool) (A N len d : ℕ) → natAbs (signed s A *ℤ pos len -ℤ signed s N *ℤ pos d) ≡ apart (A * len) (N * d)
-same-sign false A N len d = abs-sub (A * len) (N * d)
-same-sign true A N len d = ap natAbs (both-negative (pos A) (pos len) (pos N) (pos d)) ∙ abs-neg (pos (A * len) -ℤ pos (N * d)) ∙ abs-sub (A * len) (N * d)
+same-sign : (s : Bool) (A N div d : ℕ) → natAbs (signed s A *ℤ pos div -ℤ signed s N *ℤ pos d) ≡ apart (A * div) (N * d)
+same-sign false A N div d = abs-sub (A * div) (N * d)
+same-sign true A N div d = ap natAbs (both-negative (pos A) (pos div) (pos N) (pos d)) ∙ abs-neg (pos (A * div) -ℤ pos (N * d)) ∙ abs-sub (A * div) (N * d)
 
-other-sign : (s : Bool) (A N len d : ℕ) → natAbs (signed (not s) A *ℤ pos len -ℤ signed s N *ℤ pos d) ≡ A * len + N * d
-other-sign false A N len d = ap natAbs (one-negative (pos A) (pos len) (pos N) (pos d)) ∙ abs-neg (pos (A * len + N * d))
-other-sign true A N len d = ap natAbs (other-negative (pos A) (pos len) (pos N) (pos d))
+other-sign : (s : Bool) (A N div d : ℕ) → natAbs (signed (not s) A *ℤ pos div -ℤ signed s N *ℤ pos d) ≡ A * div + N * d
+other-sign false A N div d = ap natAbs (one-negative (pos A) (pos div) (pos N) (pos d)) ∙ abs-neg (pos (A * div + N * d))
+other-sign true A N div d = ap natAbs (other-negative (pos A) (pos div) (pos N) (pos d))
 
 by-sign : (x : ℤ) → x ≡ signed (negative x) (natAbs x)
 by-sign (pos n) = refl
@@ -56,25 +56,25 @@ like true false = inr refl
 like false true = inr refl
 like false false = inl refl
 
--- ---- a value X / de of g units: its distance from N / len is that of the units
-scaled : (X g de L len N : ℕ) → X * L ≡ g * de → apart (X * len) (N * de) * L ≡ apart (g * len) (N * L) * de
-scaled X g de L len N v =
-    let e : X * len * L ≡ g * len * de = mul-right-comm X len L ∙ ap (λ (z : ℕ). z * len) v ∙ mul-right-comm g de len in
-    sym (apart-mul (X * len) (N * de) L) ∙ ap₂ apart e (mul-right-comm N de L) ∙ apart-mul (g * len) (N * L) de
+-- ---- a value X / de of g units: its distance from N / div is that of the units
+scaled : (X g de L div N : ℕ) → X * L ≡ g * de → apart (X * div) (N * de) * L ≡ apart (g * div) (N * L) * de
+scaled X g de L div N v =
+    let e : X * div * L ≡ g * div * de = mul-right-comm X div L ∙ ap (λ (z : ℕ). z * div) v ∙ mul-right-comm g de div in
+    sym (apart-mul (X * div) (N * de) L) ∙ ap₂ apart e (mul-right-comm N de L) ∙ apart-mul (g * div) (N * L) de
 
 -- two such distances, the denominators multiplied out
-module _ (X g de Y h dd L len N : ℕ) (v : X * L ≡ g * de) (w : Y * L ≡ h * dd) where
-  left : apart (X * len) (N * de) * dd * L ≡ apart (g * len) (N * L) * (de * dd)
-  left = mul-right-comm (apart (X * len) (N * de)) dd L ∙ ap (λ (z : ℕ). z * dd) (scaled X g de L len N v) ∙ mul-assoc (apart (g * len) (N * L)) de dd
+module _ (X g de Y h dd L div N : ℕ) (v : X * L ≡ g * de) (w : Y * L ≡ h * dd) where
+  left : apart (X * div) (N * de) * dd * L ≡ apart (g * div) (N * L) * (de * dd)
+  left = mul-right-comm (apart (X * div) (N * de)) dd L ∙ ap (λ (z : ℕ). z * dd) (scaled X g de L div N v) ∙ mul-assoc (apart (g * div) (N * L)) de dd
 
-  right : apart (Y * len) (N * dd) * de * L ≡ apart (h * len) (N * L) * (de * dd)
-  right = mul-right-comm (apart (Y * len) (N * dd)) de L ∙ ap (λ (z : ℕ). z * de) (scaled Y h dd L len N w) ∙ mul-assoc (apart (h * len) (N * L)) dd de ∙ ap (λ (z : ℕ). apart (h * len) (N * L) * z) (mul-comm dd de)
+  right : apart (Y * div) (N * dd) * de * L ≡ apart (h * div) (N * L) * (de * dd)
+  right = mul-right-comm (apart (Y * div) (N * dd)) de L ∙ ap (λ (z : ℕ). z * de) (scaled Y h dd L div N w) ∙ mul-assoc (apart (h * div) (N * L)) dd de ∙ ap (λ (z : ℕ). apart (h * div) (N * L) * z) (mul-comm dd de)
 
-  as-near : 0 < L → apart (g * len) (N * L) ≤ apart (h * len) (N * L) → apart (X * len) (N * de) * dd ≤ apart (Y * len) (N * dd) * de
+  as-near : 0 < L → apart (g * div) (N * L) ≤ apart (h * div) (N * L) → apart (X * div) (N * de) * dd ≤ apart (Y * div) (N * dd) * de
   as-near P l = le-of-mul-le-mul-right (le-trans (le-of-eq left) (le-trans (mul-le-mul-right (de * dd) l) (le-of-eq (sym right)))) P
 
-  equally-near : 0 < de * dd → apart (X * len) (N * de) * dd ≡ apart (Y * len) (N * dd) * de → apart (g * len) (N * L) ≡ apart (h * len) (N * L)
-  equally-near P e = eq-of-mul-eq-mul-right (de * dd) P (apart (g * len) (N * L)) (apart (h * len) (N * L)) (sym left ∙ ap (λ (z : ℕ). z * L) e ∙ right)
+  equally-near : 0 < de * dd → apart (X * div) (N * de) * dd ≡ apart (Y * div) (N * dd) * de → apart (g * div) (N * L) ≡ apart (h * div) (N * L)
+  equally-near P e = eq-of-mul-eq-mul-right (de * dd) P (apart (g * div) (N * L)) (apart (h * div) (N * L)) (sym left ∙ ap (λ (z : ℕ). z * L) e ∙ right)
 
 -- ---- an f64 in units
 record Units (n : ℕ) (d : ℤ) : Type 0 where
@@ -111,19 +111,19 @@ of-fits t (suc n) d h =
     let ab = and-l (A && B && C) D h in
     in-units (suc n) d (ltb→lt (suc n) (2 ^ 53) (and-r A B (and-l (A && B) C ab))) (leb→le (down d) (2 ^ 1074) (and-r (A && B) C ab))
 
--- ---- how many digits are dropped from N / len below 2 ^ b
-drop-le : (b N len : ℕ) → 0 < len → N < len * 2 ^ b → drop 53 (N * 2 ^ 1074) len ≤ b + 1074 - 53
-drop-le b N len P h =
-    less (size (N * 2 ^ 1074 / len))
-    (size-le (N * 2 ^ 1074 / len) (b + 1074) (div-lt-iff-lt-mul P .1
-    (lt-of-lt-of-le (mul-lt-mul-of-pos-right h (pow-pos 1074)) (le-of-eq (mul-assoc len (2 ^ b) (2 ^ 1074) ∙ ap (λ (z : ℕ). len * z) (sym (pow-add 2 b 1074)) ∙ mul-comm len (2 ^ (b + 1074)))))))
+-- ---- how many digits are dropped from N / div below 2 ^ b
+drop-le : (b N div : ℕ) → 0 < div → N < div * 2 ^ b → drop 53 (N * 2 ^ 1074) div ≤ b + 1074 - 53
+drop-le b N div P h =
+    less (size (N * 2 ^ 1074 / div))
+    (size-le (N * 2 ^ 1074 / div) (b + 1074) (div-lt-iff-lt-mul P .1
+    (lt-of-lt-of-le (mul-lt-mul-of-pos-right h (pow-pos 1074)) (le-of-eq (mul-assoc div (2 ^ b) (2 ^ 1074) ∙ ap (λ (z : ℕ). div * z) (sym (pow-add 2 b 1074)) ∙ mul-comm div (2 ^ (b + 1074)))))))
   where
     less : (z : ℕ) → z ≤ b + 1074 → z - 53 ≤ b + 1074 - 53
     less z h = omega arith
 
 -- half of the last digit's weight w, in units
-half-unit : (A w len J L : ℕ) → A * 2 ≤ len * w → w * J ≤ L → A * (2 * J) ≤ len * L
-half-unit A w len J L h l = le-trans (le-of-eq (sym (mul-assoc A 2 J))) (le-trans (mul-le-mul-right J h) (le-trans (le-of-eq (mul-assoc len w J)) (mul-le-mul-left len l)))
+half-unit : (A w div J L : ℕ) → A * 2 ≤ div * w → w * J ≤ L → A * (2 * J) ≤ div * L
+half-unit A w div J L h l = le-trans (le-of-eq (sym (mul-assoc A 2 J))) (le-trans (mul-le-mul-right J h) (le-trans (le-of-eq (mul-assoc div w J)) (mul-le-mul-left div l)))
 
 zero-apart : (x : ℕ) → x ≡ apart 0 x
 zero-apart x = omega arith
@@ -140,58 +140,47 @@ no-more x y h = omega arith
 more : (x y : ℕ) → y ≤ x + y
 more x y = omega arith
 
--- ---- a magnitude N / len within the limits
-module _ (N len : ℕ) (P : 0 < len) (h : N ≤ len * 16777216) where
+-- ---- a magnitude N / div below 2 ^ 21
+module _ (N div : ℕ) (P : 0 < div) (h : N < div * 2 ^ 21) where
   abbrev L : ℕ
   L = 2 ^ 1074
 
   abbrev g : ℕ
-  g = grid binary64 N len
+  g = grid binary64 N div
+
+  digits : 2 ^ drop 53 (N * L) div ≤ 2 ^ 1042
+  digits = pow-mono (drop-le 21 N div P h)
 
   under : g < overflow binary64
-  under =
-      let K : drop 53 (N * L) len ≤ 1046 = drop-le 25 N len P (omega arith) in
-      lt-of-le-of-lt (mul-le-mul-right (2 ^ drop 53 (N * L) len) (kept-small 53 (N * L) len)) (lt-of-le-of-lt (mul-le-mul-left (2 ^ 53) (pow-mono K)) (lit< tt))
+  under = lt-of-le-of-lt (mul-le-mul-right (2 ^ drop 53 (N * L) div) (kept-small 53 (N * L) div)) (lt-of-le-of-lt (mul-le-mul-left (2 ^ 53) digits) (lit< tt))
 
-  value : (s : Bool) → HasValue (round binary64 s N len) s g L
-  value s = subst (λ (z : Float). HasValue z s g L) (sym (round-is binary64 s N len)) (units-val binary64 s (kept 53 (N * L) len) (drop 53 (N * L) len) under)
+  value : (s : Bool) → HasValue (round binary64 s N div) s g L
+  value s = subst (λ (z : Float). HasValue z s g L) (sym (round-is binary64 s N div)) (units-val binary64 s (kept 53 (N * L) div) (drop 53 (N * L) div) under)
 
-  best : (q j : ℕ) → q < 2 ^ 53 → (apart (g * len) (N * L) ≤ apart (q * 2 ^ j * len) (N * L)) × (apart (g * len) (N * L) ≡ apart (q * 2 ^ j * len) (N * L) → (q * 2 ^ j ≡ g) ⊎ (kept 53 (N * L) len % 2 ≡ 0))
-  best q j l = kept-best 53 (N * L) len (lit< tt) P q j l
+  best : (q j : ℕ) → q < 2 ^ 53 → (apart (g * div) (N * L) ≤ apart (q * 2 ^ j * div) (N * L)) × (apart (g * div) (N * L) ≡ apart (q * 2 ^ j * div) (N * L) → (q * 2 ^ j ≡ g) ⊎ (kept 53 (N * L) div % 2 ≡ 0))
+  best q j l = kept-best 53 (N * L) div (lit< tt) P q j l
 
-  -- within 2 ^ -30: half of the last digit below 2 ^ 24, and nothing at 2 ^ 24 itself
-  within : apart (g * len) (N * L) * 1073741824 ≤ len * L
-  within = ⊎-elim at-most below (eq-or-lt-of-le h)
-    where
-      at-most : N ≡ len * 16777216 → apart (g * len) (N * L) * 1073741824 ≤ len * L
-      at-most e =
-          let f : 1 * 2 ^ 1098 * len ≡ N * L = mul-comm (2 ^ 1098) len ∙ sym (mul-assoc len 16777216 L) ∙ ap (λ (z : ℕ). z * L) (sym e) in
-          let z : apart (g * len) (N * L) ≡ 0 = nothing (le-trans (best 1 1098 (lit< tt) .0) (le-of-eq (no-apart (1 * 2 ^ 1098 * len) (N * L) f))) in
-          le-trans (le-of-eq (ap (λ (x : ℕ). x * 1073741824) z)) zero-le
-        where
-          nothing : {x : ℕ} → x ≤ 0 → x ≡ 0
-          nothing h = omega arith
-
-      below : N < len * 16777216 → apart (g * len) (N * L) * 1073741824 ≤ len * L
-      below l = half-unit (apart (g * len) (N * L)) (2 ^ drop 53 (N * L) len) len 536870912 L (kept-half 53 (N * L) len (lit< tt) P) (mul-le-mul-right 536870912 (pow-mono (drop-le 24 N len P l)))
+  -- within 2 ^ -33: half of the last digit
+  within : apart (g * div) (N * L) * 8589934592 ≤ div * L
+  within = half-unit (apart (g * div) (N * L)) (2 ^ drop 53 (N * L) div) div 4294967296 L (kept-half 53 (N * L) div (lit< tt) P) (mul-le-mul-right 4294967296 digits)
 
   -- its rounded value, ± m * 2 ^ e
   module _ (s : Bool) (m : ℕ) (e : ℤ) (v : m * up e * L ≡ g * down e) where
     abbrev mine : ℕ
-    mine = apart (m * up e * len) (N * down e)
+    mine = apart (m * up e * div) (N * down e)
 
-    near : mine * 1073741824 ≤ len * down e
+    near : mine * 8589934592 ≤ div * down e
     near = le-of-mul-le-mul-right
-        (le-trans (le-of-eq (mul-right-comm mine 1073741824 L ∙ ap (λ (z : ℕ). z * 1073741824) (scaled (m * up e) g (down e) L len N v) ∙ mul-right-comm (apart (g * len) (N * L)) (down e) 1073741824))
-        (le-trans (mul-le-mul-right (down e) within) (le-of-eq (mul-right-comm len L (down e)))))
+        (le-trans (le-of-eq (mul-right-comm mine 8589934592 L ∙ ap (λ (z : ℕ). z * 8589934592) (scaled (m * up e) g (down e) L div N v) ∙ mul-right-comm (apart (g * div) (N * L)) (down e) 8589934592))
+        (le-trans (mul-le-mul-right (down e) within) (le-of-eq (mul-right-comm div L (down e)))))
         (pow-pos 1074)
 
     -- against an f64 of the same sign, and of the other, which is no nearer than 0 is
-    same-near : (n : ℕ) (d : ℤ) → Units n d → mine * down d ≤ apart (n * up d * len) (N * down d) * down e
-    same-near n d u = as-near (m * up e) g (down e) (n * up d) (n * 2 ^ u .j) (down d) L len N v (u .is) (pow-pos 1074) (best n (u .j) (u .small) .0)
+    same-near : (n : ℕ) (d : ℤ) → Units n d → mine * down d ≤ apart (n * up d * div) (N * down d) * down e
+    same-near n d u = as-near (m * up e) g (down e) (n * up d) (n * 2 ^ u .j) (down d) L div N v (u .is) (pow-pos 1074) (best n (u .j) (u .small) .0)
 
     zero-near : (dd : ℕ) → mine * dd ≤ N * dd * down e
-    zero-near dd = le-trans (as-near (m * up e) g (down e) 0 (0 * 2 ^ 0) dd L len N v (no-units dd) (pow-pos 1074) (best 0 0 (lit< tt) .0)) (le-of-eq (ap (λ (z : ℕ). apart z (N * dd) * down e) (zero-mul len) ∙ ap (λ (z : ℕ). z * down e) (sym (zero-apart (N * dd)))))
+    zero-near dd = le-trans (as-near (m * up e) g (down e) 0 (0 * 2 ^ 0) dd L div N v (no-units dd) (pow-pos 1074) (best 0 0 (lit< tt) .0)) (le-of-eq (ap (λ (z : ℕ). apart z (N * dd) * down e) (zero-mul div) ∙ ap (λ (z : ℕ). z * down e) (sym (zero-apart (N * dd)))))
 
     other-near : (B dd : ℕ) → mine * dd ≤ (B + N * dd) * down e
     other-near B dd = le-trans (zero-near dd) (mul-le-mul-right (down e) (more B (N * dd)))
@@ -200,23 +189,23 @@ module _ (N len : ℕ) (P : 0 < len) (h : N ≤ len * 16777216) where
     abbrev IsEven : Type 0
     IsEven = toBits binary64 (fin s m e) % 2 ≡ 0
 
-    tie : (q j : ℕ) → q < 2 ^ 53 → (q * 2 ^ j ≡ g → IsEven) → apart (g * len) (N * L) ≡ apart (q * 2 ^ j * len) (N * L) → IsEven
-    tie q j l same t = ⊎-elim same (λ (x : kept 53 (N * L) len % 2 ≡ 0). even-bits s m e (kept 53 (N * L) len) (drop 53 (N * L) len) (kept-small 53 (N * L) len) x v) (best q j l .1 t)
+    tie : (q j : ℕ) → q < 2 ^ 53 → (q * 2 ^ j ≡ g → IsEven) → apart (g * div) (N * L) ≡ apart (q * 2 ^ j * div) (N * L) → IsEven
+    tie q j l same t = ⊎-elim same (λ (x : kept 53 (N * L) div % 2 ≡ 0). even-bits s m e (kept 53 (N * L) div) (drop 53 (N * L) div) (kept-small 53 (N * L) div) x v) (best q j l .1 t)
 
-    same-tie : T (fits binary64 (fin s m e)) → (n : ℕ) (d : ℤ) → T (fits binary64 (fin s n d)) → (fin s m e ≡ fin s n d → ⊥) → mine * down d ≡ apart (n * up d * len) (N * down d) * down e → IsEven
+    same-tie : T (fits binary64 (fin s m e)) → (n : ℕ) (d : ℤ) → T (fits binary64 (fin s n d)) → (fin s m e ≡ fin s n d → ⊥) → mine * down d ≡ apart (n * up d * div) (N * down d) * down e → IsEven
     same-tie f n d k ne t =
         let u = of-fits s n d k in
         tie n (u .j) (u .small) (λ x. absurd (ne (one-f64 s m e n d g f k v (u .is ∙ ap (λ (z : ℕ). z * down d) x))))
-        (equally-near (m * up e) g (down e) (n * up d) (n * 2 ^ u .j) (down d) L len N v (u .is) (mul-pos (down-pos e) (down-pos d)) t)
+        (equally-near (m * up e) g (down e) (n * up d) (n * 2 ^ u .j) (down d) L div N v (u .is) (mul-pos (down-pos e) (down-pos d)) t)
 
     other-tie : (B dd : ℕ) → 0 < dd → mine * dd ≡ (B + N * dd) * down e → IsEven
     other-tie B dd D t =
         let b : B ≡ 0 = no-more B (N * dd) (le-of-mul-le-mul-right (le-trans (le-of-eq (sym t)) (zero-near dd)) (down-pos e)) in
-        let t′ : mine * dd ≡ apart (0 * len) (N * dd) * down e = t ∙ ap (λ (z : ℕ). (z + N * dd) * down e) b ∙ ap (λ (z : ℕ). z * down e) (zero-plus (N * dd)) ∙ ap (λ (z : ℕ). apart z (N * dd) * down e) (sym (zero-mul len)) in
+        let t′ : mine * dd ≡ apart (0 * div) (N * dd) * down e = t ∙ ap (λ (z : ℕ). (z + N * dd) * down e) b ∙ ap (λ (z : ℕ). z * down e) (zero-plus (N * dd)) ∙ ap (λ (z : ℕ). apart z (N * dd) * down e) (sym (zero-mul div)) in
         tie 0 0 (lit< tt) (λ x. even-bits s m e 0 0 zero-le refl (v ∙ ap (λ (z : ℕ). z * down e) (sym x)))
-        (equally-near (m * up e) g (down e) 0 (0 * 2 ^ 0) dd L len N v (no-units dd) (mul-pos (down-pos e) D) t′)
+        (equally-near (m * up e) g (down e) 0 (0 * 2 ^ 0) dd L div N v (no-units dd) (mul-pos (down-pos e) D) t′)
 
--- ---- the level a, of the sign s and the magnitude N / len
+-- ---- the level a, of the sign s and the magnitude N / divisor a, in seconds
 module _ (a : Level) (ok : Valid a) where
   abbrev N : ℕ
   N = natAbs (a .total)
@@ -224,28 +213,35 @@ module _ (a : Level) (ok : Valid a) where
   abbrev s : Bool
   s = negative (a .total)
 
-  distance-same : (n : ℕ) (d : ℤ) → distance (fin s n d) a ≡ apart (n * up d * a .length) (N * down d)
-  distance-same n d = ap (λ x. natAbs (signed s (n * up d) *ℤ pos (a .length) -ℤ x *ℤ pos (down d))) (by-sign (a .total)) ∙ same-sign s (n * up d) N (a .length) (down d)
+  pub positive : 0 < divisor a
+  positive = omega (arith, ok .some)
 
-  distance-other : (n : ℕ) (d : ℤ) → distance (fin (not s) n d) a ≡ n * up d * a .length + N * down d
-  distance-other n d = ap (λ x. natAbs (signed (not s) (n * up d) *ℤ pos (a .length) -ℤ x *ℤ pos (down d))) (by-sign (a .total)) ∙ other-sign s (n * up d) N (a .length) (down d)
+  -- 16,777,216 tenths are below 2 ^ 21 seconds
+  below : N < divisor a * 2 ^ 21
+  below = omega (arith, ok .some, ok .small)
 
-  module _ (m : ℕ) (e : ℤ) (v : m * up e * 2 ^ 1074 ≡ grid binary64 N (a .length) * down e) (f : T (fits binary64 (fin s m e))) where
+  distance-same : (n : ℕ) (d : ℤ) → distance (fin s n d) a ≡ apart (n * up d * divisor a) (N * down d)
+  distance-same n d = ap (λ x. natAbs (signed s (n * up d) *ℤ pos (divisor a) -ℤ x *ℤ pos (down d))) (by-sign (a .total)) ∙ same-sign s (n * up d) N (divisor a) (down d)
+
+  distance-other : (n : ℕ) (d : ℤ) → distance (fin (not s) n d) a ≡ n * up d * divisor a + N * down d
+  distance-other n d = ap (λ x. natAbs (signed (not s) (n * up d) *ℤ pos (divisor a) -ℤ x *ℤ pos (down d))) (by-sign (a .total)) ∙ other-sign s (n * up d) N (divisor a) (down d)
+
+  module _ (m : ℕ) (e : ℤ) (v : m * up e * 2 ^ 1074 ≡ grid binary64 N (divisor a) * down e) (f : T (fits binary64 (fin s m e))) where
     best-of : (y : Float) → T (fits binary64 y) → T (finite y) → distance (fin s m e) a * den y ≤ distance y a * down e
     best-of nan k t = absurd t
     best-of (inf r) k t = absurd t
     best-of (fin r n d) k t = ⊎-elim
-        (λ (q : r ≡ s). subst (λ (x : Bool). distance (fin s m e) a * down d ≤ distance (fin x n d) a * down e) (sym q) (rw (distance-same m e, distance-same n d) (same-near N (a .length) (ok .some) (ok .small) s m e v n d (of-fits r n d k))))
-        (λ (q : r ≡ not s). subst (λ (x : Bool). distance (fin s m e) a * down d ≤ distance (fin x n d) a * down e) (sym q) (rw (distance-same m e, distance-other n d) (other-near N (a .length) (ok .some) (ok .small) s m e v (n * up d * a .length) (down d))))
+        (λ (q : r ≡ s). subst (λ (x : Bool). distance (fin s m e) a * down d ≤ distance (fin x n d) a * down e) (sym q) (rw (distance-same m e, distance-same n d) (same-near N (divisor a) positive below s m e v n d (of-fits r n d k))))
+        (λ (q : r ≡ not s). subst (λ (x : Bool). distance (fin s m e) a * down d ≤ distance (fin x n d) a * down e) (sym q) (rw (distance-same m e, distance-other n d) (other-near N (divisor a) positive below s m e v (n * up d * divisor a) (down d))))
         (like r s)
 
     even-of : (y : Float) → T (fits binary64 y) → T (finite y) → (fin s m e ≡ y → ⊥) → distance (fin s m e) a * den y ≡ distance y a * down e → Even (fin s m e)
     even-of nan k t ne q = absurd t
     even-of (inf r) k t ne q = absurd t
     even-of (fin r n d) k t ne q = ⊎-elim
-        (λ (p : r ≡ s). same-tie N (a .length) (ok .some) (ok .small) s m e v f n d (subst (λ (x : Bool). T (fits binary64 (fin x n d))) p k) (λ z. ne (z ∙ ap (λ (x : Bool). fin x n d) (sym p)))
+        (λ (p : r ≡ s). same-tie N (divisor a) positive below s m e v f n d (subst (λ (x : Bool). T (fits binary64 (fin x n d))) p k) (λ z. ne (z ∙ ap (λ (x : Bool). fin x n d) (sym p)))
         (rw (distance-same m e, distance-same n d) at (subst (λ (x : Bool). distance (fin s m e) a * down d ≡ distance (fin x n d) a * down e) p q)))
-        (λ (p : r ≡ not s). other-tie N (a .length) (ok .some) (ok .small) s m e v (n * up d * a .length) (down d) (down-pos d)
+        (λ (p : r ≡ not s). other-tie N (divisor a) positive below s m e v (n * up d * divisor a) (down d) (down-pos d)
         (rw (distance-same m e, distance-other n d) at (subst (λ (x : Bool). distance (fin s m e) a * down d ≡ distance (fin x n d) a * down e) p q)))
         (like r s)
 
@@ -253,15 +249,15 @@ module _ (a : Level) (ok : Valid a) where
     nearest-at = record {
       f64 = f;
       real = tt;
-      within = rw (distance-same m e) (near N (a .length) (ok .some) (ok .small) s m e v);
+      within = rw (distance-same m e) (near N (divisor a) positive below s m e v);
       best = best-of;
       even = even-of;
     }
 
-  of-value : (x : Float) → HasValue x s (grid binary64 N (a .length)) (2 ^ 1074) → T (fits binary64 x) → NearestF64 a x
+  of-value : (x : Float) → HasValue x s (grid binary64 N (divisor a)) (2 ^ 1074) → T (fits binary64 x) → NearestF64 a x
   of-value nan h f = absurd h
   of-value (inf r) h f = absurd h
   of-value (fin r m e) h f = subst (λ (x : Bool). T (fits binary64 (fin x m e)) → NearestF64 a (fin x m e)) (sym (h .0)) (nearest-at m e (h .1)) f
 
   pub nearest-f64 : NearestF64 a (nearestTo a)
-  nearest-f64 = of-value (nearestTo a) (value N (a .length) (ok .some) (ok .small) s) (round-fits binary64 s N (a .length))
+  nearest-f64 = of-value (nearestTo a) (value N (divisor a) positive below s) (round-fits binary64 s N (divisor a))

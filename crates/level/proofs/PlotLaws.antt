@@ -1,4 +1,5 @@
--- The plotted value never orders two levels the wrong way: this follows from `best` alone. A total of 0 plots as plus zero, (2, −3) as −1.5.
+-- The plotted value never orders two levels the wrong way: this follows from `best` alone. A total of 0 plots as plus zero, (2, −3) as the f64 nearest to
+-- −0.15, and 7 tenths over 10 minutes as the f64 nearest to 0.07.
 use mathlib.Core.Path.{_≡_, refl, sym, ap, _∙_, subst₂}
 use mathlib.Core.Bool.{Bool, true, false, _||_}
 use mathlib.Core.Logic.{⊎-elim}
@@ -20,19 +21,23 @@ use Rattle.integers.specs.Products.{*-mono<}
 use Rattle.integers.specs.Ring.{ring, reify}
 use Rattle.level.specs.Limits.{Valid}
 use Rattle.level.specs.Order.{cross}
-use Rattle.level.specs.Plot.{nearestTo, signed, num, den, NearestF64}
+use Rattle.level.specs.Plot.{divisor, nearestTo, signed, num, den, NearestF64}
 use Rattle.level.specs.declared.Level.{Level}
-use Rattle.level.proofs.NearestF64.{nearest-f64}
+use Rattle.level.proofs.NearestF64.{positive, nearest-f64}
 
 pub plus-zero : (length : ℕ) → 0 < length → nearestTo (record { length = length; total = pos 0 }) ≡ fin false 0 (pos 0)
-plus-zero length h = round-same binary64 false 0 length 0 1 h (lit< tt) (mul-one 0 ∙ sym (zero-mul length)) ∙ zero
+plus-zero length h = round-same binary64 false 0 (10 * length) 0 1 (omega arith) (lit< tt) (mul-one 0 ∙ sym (zero-mul (10 * length))) ∙ zero
   where
     zero : round binary64 false 0 1 ≡ fin false 0 (pos 0)
     zero = unfold round in refl
 
--- the plotted row of the known lines (RULES 2.6): (2, −3) plots as −1.5, which is −3 * 2 ^ -1
-pub known-plot : nearestTo (record { length = 2; total = negsuc 2 }) ≡ fin true 3 (negsuc 0)
+-- the plotted row of the known lines (RULES 2.6): (2, −3) plots as the f64 nearest to −0.15, −5404319552844595 * 2 ^ -55
+pub known-plot : nearestTo (record { length = 2; total = negsuc 2 }) ≡ fin true 5404319552844595 (negsuc 54)
 known-plot = unfold round in refl
+
+-- rounded once: (10, 7) plots as the f64 nearest to 0.07, 1261007895663739 * 2 ^ -54; 0.7 rounded and then divided by ten gives the one below it
+pub rounded-once : nearestTo (record { length = 10; total = pos 7 }) ≡ fin false 1261007895663739 (negsuc 53)
+rounded-once = unfold round in refl
 
 -- ---- the order of f64s, by their fractions
 ordered : (s t : Bool) (A B : ℕ) → signed s A ⩽ signed t B → T (below s A t B || level s A t B)
@@ -80,6 +85,12 @@ middles D E l₁ l₂ t₁ t₂ K p₁ p₂ k h g = by⩽/ (D ∷ E ∷ l₁ ∷
     two : pos 0 ⋖ pos 2
     two = ltZ-yes tt
 
+tenth : (t₂ t₁ l₁ l₂ : ℤ) → t₂ *ℤ (pos 10 *ℤ l₁) ⩽ t₁ *ℤ (pos 10 *ℤ l₂) → t₂ *ℤ l₁ ⩽ t₁ *ℤ l₂
+tenth t₂ t₁ l₁ l₂ h = by⩽/ (t₂ ∷ t₁ ∷ l₁ ∷ l₂ ∷ []) ten (gap h) (search reify depth 20) refl
+  where
+    ten : pos 0 ⋖ pos 10
+    ten = ltZ-yes tt
+
 den-pos : (v : Float) → 0 < den v
 den-pos nan = lit< tt
 den-pos (inf s) = lit< tt
@@ -104,13 +115,14 @@ module _ (a b : Level) (h : Valid a) (k : Valid b) (v w : Float) (n : NearestF64
   -- where w were below v, b would not be above a
   crossed : E ⋖ D → cross b a ⩽ cross a b
   crossed l =
-      let p = 0⋖pos (a .length) (h .some) in
-      let q = 0⋖pos (b .length) (k .some) in
-      let f : natAbs (D *ℤ pos (a .length) -ℤ a .total *ℤ K) ≤ natAbs (E *ℤ pos (a .length) -ℤ a .total *ℤ K) = subst₂ _≤_ (spread (num v) (pos (a .length)) (a .total) (den v) (den w)) (spread (num w) (pos (a .length)) (a .total) (den w) (den v) ∙ ap (λ x. natAbs (E *ℤ pos (a .length) -ℤ a .total *ℤ x)) swapped) (n .best w (m .f64) (m .real)) in
-      let g : natAbs (E *ℤ pos (b .length) -ℤ b .total *ℤ K) ≤ natAbs (D *ℤ pos (b .length) -ℤ b .total *ℤ K) = subst₂ _≤_ (spread (num w) (pos (b .length)) (b .total) (den w) (den v) ∙ ap (λ x. natAbs (E *ℤ pos (b .length) -ℤ b .total *ℤ x)) swapped) (spread (num v) (pos (b .length)) (b .total) (den v) (den w)) (m .best v (n .f64) (n .real)) in
-      middles D E (pos (a .length)) (pos (b .length)) (a .total) (b .total) K p q (0⋖* (0⋖pos (den v) (den-pos v)) (0⋖pos (den w) (den-pos w)))
-      (above-middle (D *ℤ pos (a .length)) (E *ℤ pos (a .length)) (a .total *ℤ K) (*-mono< E D (pos (a .length)) p l) f)
-      (below-middle (D *ℤ pos (b .length)) (E *ℤ pos (b .length)) (b .total *ℤ K) (*-mono< E D (pos (b .length)) q l) g)
+      let p = 0⋖pos (divisor a) (positive a h) in
+      let q = 0⋖pos (divisor b) (positive b k) in
+      let f : natAbs (D *ℤ pos (divisor a) -ℤ a .total *ℤ K) ≤ natAbs (E *ℤ pos (divisor a) -ℤ a .total *ℤ K) = subst₂ _≤_ (spread (num v) (pos (divisor a)) (a .total) (den v) (den w)) (spread (num w) (pos (divisor a)) (a .total) (den w) (den v) ∙ ap (λ x. natAbs (E *ℤ pos (divisor a) -ℤ a .total *ℤ x)) swapped) (n .best w (m .f64) (m .real)) in
+      let g : natAbs (E *ℤ pos (divisor b) -ℤ b .total *ℤ K) ≤ natAbs (D *ℤ pos (divisor b) -ℤ b .total *ℤ K) = subst₂ _≤_ (spread (num w) (pos (divisor b)) (b .total) (den w) (den v) ∙ ap (λ x. natAbs (E *ℤ pos (divisor b) -ℤ b .total *ℤ x)) swapped) (spread (num v) (pos (divisor b)) (b .total) (den v) (den w)) (m .best v (n .f64) (n .real)) in
+      tenth (b .total) (a .total) (pos (a .length)) (pos (b .length))
+      (middles D E (pos (divisor a)) (pos (divisor b)) (a .total) (b .total) K p q (0⋖* (0⋖pos (den v) (den-pos v)) (0⋖pos (den w) (den-pos w)))
+      (above-middle (D *ℤ pos (divisor a)) (E *ℤ pos (divisor a)) (a .total *ℤ K) (*-mono< E D (pos (divisor a)) p l) f)
+      (below-middle (D *ℤ pos (divisor b)) (E *ℤ pos (divisor b)) (b .total *ℤ K) (*-mono< E D (pos (divisor b)) q l) g))
 
   ordered-plots : cross a b ⋖ cross b a → T (le v w)
   ordered-plots l = ⊎-elim (λ (g : E ⋖ D). let c = crossed g in absurd (omega int)) (λ (g : D ⩽ E). le-of v w (n .real) (m .real) g) (lt-or-ge E D)

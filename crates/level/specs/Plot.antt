@@ -1,4 +1,4 @@
--- The plotted level: total / length, rounded once to the nearest f64, ties to even (RULES 3.4).
+-- The plotted level, in seconds: total / (10 * length), rounded once to the nearest f64, ties to even (RULES 3.4).
 use mathlib.Core.Path.{_≡_}
 use mathlib.Core.Bool.{Bool, true, false}
 use Prim.Native.Nat.{ℕ, _*_, _%_, _≤_}
@@ -16,9 +16,13 @@ abbrev pub negative : ℤ → Bool
 negative (pos n) = false
 negative (negsuc n) = true
 
--- the exact fraction total / length, rounded once; a total of 0 gives plus zero
+-- a level of total / length tenths is total / divisor seconds
+abbrev pub divisor : Level → ℕ
+divisor a = 10 * a .length
+
+-- the exact seconds, rounded once; a total of 0 gives plus zero
 abbrev pub nearestTo : Level → Float
-nearestTo a = round binary64 (negative (a .total)) (natAbs (a .total)) (a .length)
+nearestTo a = round binary64 (negative (a .total)) (natAbs (a .total)) (divisor a)
 
 abbrev pub plotOf : Level → Answer Float
 plotOf a = limited a (nearestTo a)
@@ -38,19 +42,19 @@ den nan = 1
 den (inf s) = 1
 den (fin s m e) = down e
 
--- the distance of v and the level a, times den v * length
+-- the distance of v and the seconds of a, times den v * divisor a
 abbrev pub distance : Float → Level → ℕ
-distance v a = natAbs (num v *ℤ pos (a .length) -ℤ a .total *ℤ pos (den v))
+distance v a = natAbs (num v *ℤ pos (divisor a) -ℤ a .total *ℤ pos (den v))
 
 -- the last bit of an f64 is 0
 abbrev pub Even : Float → Type 0
 Even v = toBits binary64 v % 2 ≡ 0
 
--- v is the f64 nearest to a: it lies within 2 ^ -30 of it, no f64 is nearer, and of two that are equally near it is the even one
+-- v is the f64 nearest to the seconds of a: it lies within 2 ^ -33 of them, no f64 is nearer, and of two that are equally near it is the even one
 pub record NearestF64 (a : Level) (v : Float) : Type 0 where
   pub f64 : T (fits binary64 v)
   pub real : T (finite v)
-  pub within : distance v a * 1073741824 ≤ a .length * den v
+  pub within : distance v a * 8589934592 ≤ divisor a * den v
   pub best : (y : Float) → T (fits binary64 y) → T (finite y) → distance v a * den y ≤ distance y a * den v
   pub even : (y : Float) → T (fits binary64 y) → T (finite y) → (v ≡ y → ⊥) → distance v a * den y ≡ distance y a * den v → Even v
 

@@ -70,7 +70,7 @@ impl Level {
         sign(difference(self, other))
     }
 
-    // The f64 nearest to the level, ties to even.
+    // The f64 nearest to the level in seconds, ties to even.
     pub fn plot(self) -> Plotted
         ensures answer { λ r. ⌜ plotted r ≡ plotOf self ⌝ }
         ensures nearest { λ r. ⌜ NearestPlot self r ⌝ }
@@ -125,10 +125,10 @@ fn sign(difference: i64) -> Compared
     Compared::Equal
 }
 
-// Both whole numbers are f64s, so this rounds once.
+// In seconds. Both whole numbers are f64s, so this rounds once.
 fn quotient(a: Level) -> f64
     requires { ⌜ Valid a ⌝ }
     ensures { λ r. ⌜ r ≡ nearestTo a ⌝ }
 {
-    a.total as f64 / a.length as f64
+    a.total as f64 / (10 * a.length) as f64
 }

@@ -12,8 +12,10 @@ use mir.Val.{toZ, ofZ}
 use mir.Facts.{toZ-ofZ}
 use Rattle.integers.specs.Bounds.{fits-lt}
 use Rattle.level.specs.Limits.{Valid}
+use Rattle.level.specs.Plot.{divisor}
 use Rattle.level.specs.declared.Level.{Level}
 use Rattle.level.proofs.LimitsLaws.{small}
+use Rattle.level.proofs.NearestF64.{positive}
 use Rattle.level.proofs.Division.{quotient-is}
 use Rattle.level.proofs.quotient.Statement.{statement}
 use Rattle.level.proofs.quotient.Tie as tie
@@ -31,14 +33,17 @@ back a h = toZ-ofZ (fits-lt w64 (a .total) 1099511627776 (small h .upto) tt)
 int-to-float-result : tie.Need-int-to-float-result
 int-to-float-result c = let h = c .before .before .pre in rw (back (c .before .before .args .a) h) (in-float (c .before .before .args .a .total) (small h .upto))
 
+mul-result : tie.Need-mul-result
+mul-result c = record { fits = omega (arith, c .before .before .before .pre .short) }
+
 int-to-float-result-2 : tie.Need-int-to-float-result-2
 int-to-float-result-2 c = search needs
 
 returns : tie.Need-returns
 returns c =
-    let s = c .before .before .before in
+    let s = c .before .before .before .before in
     let h = s .pre in
-    rw (back (s .args .a) h) (quotient-is (s .args .a .total) (s .args .a .length) (omega (arith, small h .upto)) (h .some) (omega (arith, h .short)))
+    rw (back (s .args .a) h) (quotient-is (s .args .a .total) (divisor (s .args .a)) (omega (arith, small h .upto)) (positive (s .args .a) h) (omega (arith, h .short)))
 
 pub quotient-spec : {M : Type 1} → statement M
-quotient-spec = tie.close (tie.spec int-to-float-result int-to-float-result-2 returns)
+quotient-spec = tie.close (tie.spec int-to-float-result mul-result int-to-float-result-2 returns)
