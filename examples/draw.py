@@ -1,10 +1,11 @@
 #!/usr/bin/env python3
-"""Draws a completed sheet: its samples as dots, its line as steps over them.
+"""Draws a completed sheet: its samples as dots, its line as steps over them, in seconds.
 
     draw.py SHEET PICTURE      SHEET has its line (examples/complete.c writes such a one); PICTURE gets an SVG
 """
 import struct
 import sys
+from fractions import Fraction
 
 WIDTH, HEIGHT = 960, 400
 LEFT, RIGHT, TOP, BOTTOM = 72, 936, 52, 344
@@ -14,7 +15,7 @@ STEPS = 'fill="none" stroke="#c2410c" stroke-width="2.6" stroke-linejoin="round"
 
 
 def read(path):
-    """Samples, smoothing and line, [(length, total)]."""
+    """Samples, smoothing and line, [(length, total)]; samples and totals in tenths of a second."""
     with open(path, "rb") as f:
         sheet = f.read()
     if len(sheet) < 32:
@@ -27,9 +28,8 @@ def read(path):
     return struct.unpack_from(f"<{n}i", sheet, samples), smoothing, list(struct.iter_unpack("<Iq", sheet[segments:]))
 
 
-def unit(span, most):
-    """The least of 1, 2, 5, 10, 20, 50, ... that fits into the span at most that many times."""
-    power = 1
+def unit(span, most, power=1):
+    """The least of 1, 2, 5, 10, 20, 50, ... times the power that fits into the span at most that many times."""
     while True:
         for step in (1, 2, 5):
             if span <= most * step * power:
@@ -38,11 +38,11 @@ def unit(span, most):
 
 
 class Plane:
-    """Minutes and tenths to places in the picture; the lowest and highest tenths are ticks."""
+    """Minutes and seconds to places in the picture; the lowest and highest seconds are ticks."""
 
     def __init__(self, samples):
-        low, high = min(samples), max(samples)
-        self.tick = unit(max(high - low, 1), 5)
+        low, high = Fraction(min(samples), 10), Fraction(max(samples), 10)
+        self.tick = unit(high - low, 5, Fraction(1, 10))
         self.low = low // self.tick * self.tick
         self.high = max(-(-high // self.tick) * self.tick, self.low + self.tick)
         self.minutes = len(samples)
@@ -51,8 +51,8 @@ class Plane:
         """The middle of a minute; half a minute away are its ends."""
         return round(LEFT + (minute - 0.5) * (RIGHT - LEFT) / self.minutes, 1)
 
-    def y(self, tenths):
-        return round(BOTTOM - (tenths - self.low) * (BOTTOM - TOP) / (self.high - self.low), 1)
+    def y(self, seconds):
+        return round(float(BOTTOM - (seconds - self.low) * (BOTTOM - TOP) / (self.high - self.low)), 1)
 
 
 def text(x, y, words, anchor="middle", more=""):
@@ -61,10 +61,12 @@ def text(x, y, words, anchor="middle", more=""):
 
 def axes(plane):
     out = []
-    for tenths in range(plane.low, plane.high + 1, plane.tick):
-        y = plane.y(tenths)
+    digits = 1 if plane.tick < 1 else 0
+    for k in range(int((plane.high - plane.low) / plane.tick) + 1):
+        seconds = plane.low + k * plane.tick
+        y = plane.y(seconds)
         out.append(f'<path d="M{LEFT} {y}H{RIGHT}" stroke="{GRID}"/>')
-        out.append(text(LEFT - 10, y + 4.5, f"{tenths:,}", "end"))
+        out.append(text(LEFT - 10, y + 4.5, f"{float(seconds):,.{digits}f}", "end"))
     step = unit(plane.minutes, 9)
     for minute in [1] + list(range(step, plane.minutes + 1, step)):
         x = plane.x(minute)
@@ -73,19 +75,19 @@ def axes(plane):
     out.append(f'<path d="M{LEFT} {BOTTOM}H{RIGHT}" stroke="{TEXT}"/>')
     out.append(text((LEFT + RIGHT) / 2, BOTTOM + 42, "minute"))
     middle = (TOP + BOTTOM) / 2
-    out.append(text(20, middle, "delay, tenths of a second", more=f' transform="rotate(-90 20 {middle})"'))
+    out.append(text(20, middle, "delay, seconds", more=f' transform="rotate(-90 20 {middle})"'))
     return out
 
 
 def dots(plane, samples):
-    places = "".join(f"M{plane.x(k)} {plane.y(y)}h0" for k, y in enumerate(samples, 1))
+    places = "".join(f"M{plane.x(k)} {plane.y(Fraction(y, 10))}h0" for k, y in enumerate(samples, 1))
     return f'<path d="{places}" {DOTS}/>'
 
 
 def steps(plane, line):
     path, first = "", 1
     for length, total in line:
-        path += ("V" if path else f"M{LEFT} ") + f"{plane.y(total / length)}H{plane.x(first + length - 0.5)}"
+        path += ("V" if path else f"M{LEFT} ") + f"{plane.y(Fraction(total, 10 * length))}H{plane.x(first + length - 0.5)}"
         first += length
     return f'<path d="{path}" {STEPS}/>'
 

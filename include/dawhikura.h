@@ -55,13 +55,13 @@ typedef struct { uint32_t length; int64_t total; } dawhikura_segment;
 int64_t dawhikura_series_check_segments(const int32_t *samples, size_t minutes, uint64_t smoothing, const dawhikura_segment *segments, size_t segments_len);
 
 /* The chart of a line of so many minutes: the first minute, the last minute and the plotted level of each segment, in the first entries of the three
- * lists; the result is the number of segments. The lists need as many entries as the line has segments. A plotted level is the nearest double to total
- * over length, ties to even. Refusals 1, 2, 6, 7, 8, then 5. */
+ * lists; the result is the number of segments. The lists need as many entries as the line has segments. A plotted level is in seconds:
+ * the nearest double to total over ten times the length, ties to even. Refusals 1, 2, 6, 7, 8, then 5. */
 int64_t dawhikura_chart_segments(size_t minutes, const uint32_t *lengths, size_t lengths_len, const int64_t *totals, size_t totals_len, uint32_t *firsts,
                                  size_t firsts_len, uint32_t *lasts, size_t lasts_len, double *levels, size_t levels_len);
 
 /* The mark of one minute of that chart: 0 for a plain level, 1 for a rise and 2 for a fall, which stand at the last minute of the old level. The first
- * two levels are the plotted ones before and after the step, or the plain one twice; the list needs two entries. Two close levels may plot alike; the
+ * two levels are the plotted ones, in seconds, before and after the step, or the plain one twice; the list needs two entries. Two close levels may plot alike; the
  * kind follows the exact ones. Refusals 1, 2, 6, 7, 8, 13, then 5. */
 int64_t dawhikura_chart_mark(size_t minutes, const uint32_t *lengths, size_t lengths_len, const int64_t *totals, size_t totals_len, size_t minute,
                              double *levels, size_t levels_len);

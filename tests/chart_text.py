@@ -35,6 +35,11 @@ def nearest(x):
     return bits | (1 << 63 if x < 0 else 0)
 
 
+def plotted(length, total):
+    """The bits of the level in seconds: a total in tenths over so many minutes."""
+    return nearest(Fraction(total, 10 * length))
+
+
 def alike():
     """Two levels of one line that differ and plot alike: the first such pair of lengths, down from half of 65,536 minutes."""
     for l in range(32768, 0, -1):
@@ -44,7 +49,7 @@ def alike():
                 a = pow(k, -1, l)
                 t, u = l * TENTHS - a, k * TENTHS - (a * k - 1) // l
                 assert Fraction(t, l) < Fraction(u, k)
-                if nearest(Fraction(t, l)) == nearest(Fraction(u, k)):
+                if plotted(l, t) == plotted(k, u):
                     return [(l, t), (k, u)]
 
 
@@ -53,7 +58,7 @@ def segment(line, j):
         return f"segment {j} refused 13 0"
     before = sum(l for l, t in line[: j - 1])
     length, total = line[j - 1]
-    return f"segment {j} {before + 1} {before + length} {nearest(Fraction(total, length)):016x}"
+    return f"segment {j} {before + 1} {before + length} {plotted(length, total):016x}"
 
 
 def entry(line, j):
@@ -64,11 +69,12 @@ def entry(line, j):
 def mark(line, k):
     if not 1 <= k <= sum(l for l, t in line):
         return f"minute {k} refused 13 0"
-    levels = [Fraction(t, l) for l, t in line for _ in range(l)]
-    here, after = levels[k - 1], levels[k] if k < len(levels) else levels[k - 1]
-    if here == after:
-        return f"minute {k} level {nearest(here):016x}"
-    return f"minute {k} {'rise' if here < after else 'fall'} {nearest(here):016x} {nearest(after):016x}"
+    holders = [s for s in line for _ in range(s[0])]
+    here, after = holders[k - 1], holders[k] if k < len(holders) else holders[k - 1]
+    x, y = (Fraction(t, l) for l, t in (here, after))
+    if x == y:
+        return f"minute {k} level {plotted(*here):016x}"
+    return f"minute {k} {'rise' if x < y else 'fall'} {plotted(*here):016x} {plotted(*after):016x}"
 
 
 def main():

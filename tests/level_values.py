@@ -27,6 +27,11 @@ def bits(v):
     return struct.unpack("<Q", struct.pack("<d", v))[0]
 
 
+def seconds(length, total):
+    """The level in seconds, exactly: a total in tenths over so many minutes."""
+    return Fraction(total, 10 * length)
+
+
 def nearest(x):
     """The f64 nearest to the fraction x, ties to even, found by bisection over the f64s."""
     if x == 0:
@@ -46,19 +51,24 @@ def nearest(x):
     return v if x > 0 else -v
 
 
+def off(x):
+    """How far the f64 nearest to x is from it."""
+    return abs(Fraction(nearest(x)) - x)
+
+
 def hardest(count):
-    """Levels whose quotient lies nearest to the middle of two f64s. A tie itself cannot be met within the limits: a quotient that is a
-    binary fraction has at most 41 digits."""
+    """Levels whose seconds lie nearest to the middle of two f64s. A tie itself cannot be met within the limits: seconds that are a binary
+    fraction have at most 38 digits."""
     found = []
     for length in range(65535, 65500, -2):
-        for e in range(0, 24):
-            # total / length near 2^e + (odd) * 2^(e - 53)
+        for e in range(0, 21):
+            # near 2^e + (odd) * 2^(e - 53)
             step = Fraction(2) ** (e - 53)
             for j in range(0, 40):
-                total = (2**e) * length + j
+                total = 10 * 2**e * length + j
                 if total > length * TENTHS:
                     continue
-                r = (Fraction(total, length) / step) % 2
+                r = (seconds(length, total) / step) % 2
                 found.append((abs(r - 1), length, total))
     found.sort()
     return [(l, t) for d, l, t in found[:count]]
@@ -77,7 +87,7 @@ def rows():
         # two levels that plot alike: 65535 minutes at just under 2^24, and its neighbour over 65536
         ((65535, 65535 * 16777216 - 1), (65536, 65536 * 16777216 - 1)), ((65534, 65534 * 16777215 + 1), (65533, 65533 * 16777215 + 1)),
         ((65535, 1), (65534, 1)), ((7, 22), (113, 355)), ((10, -1), (100, -10)), ((6, 1), (7, 1)), ((9, -2), (9, -1)),
-        ((10, 1), (3, 1)), ((49, 1), (41, 1)), ((65521, 65519), (65519, 65521)), ((65521, -65519), (65519, -65521)),
+        ((10, 1), (3, 1)), ((10, 7), (100, 70)), ((49, 1), (41, 1)), ((65521, 65519), (65519, 65521)), ((65521, -65519), (65519, -65521)),
     ]
     hard = hardest(8)
     return pairs + list(zip(hard, hard[1:] + hard[:1]))
@@ -86,14 +96,14 @@ def rows():
 def line(a, b):
     made = refusal(*a)
     compared = next((n for n, m in ((6, a), (6, b), (7, a), (7, b)) if refusal(*m) == n), 0)
-    x, y = (Fraction(t, l) if refusal(l, t) == 0 else None for l, t in (a, b))
+    x, y = (seconds(l, t) if refusal(l, t) == 0 else None for l, t in (a, b))
     first = f"refused {made} 0" if made else "valid"
     second = f"refused {compared} 0" if compared else ["less", "equal", "greater"][(x > y) - (x < y) + 1]
     third = f"refused {made} 0" if made else f"{bits(nearest(x)):016x}"
     if not made:  # the bisection against the neighbours
         v = nearest(x)
         for other in (nextafter(v, inf), nextafter(v, -inf)):
-            assert abs(Fraction(v) - x) <= abs(Fraction(other) - x)
+            assert off(x) <= abs(Fraction(other) - x)
     return f"{a[0]} {a[1]} {b[0]} {b[1]}: {first}, {second}, {third}"
 
 
@@ -101,6 +111,8 @@ def main():
     table = rows()
     n = len(table)
     assert n >= 40
+    farthest = max(off(seconds(*a)) for a, b in table if refusal(*a) == 0)
+    assert Fraction(1, 2**34) < farthest <= Fraction(1, 2**33)
     lengths = [l for a, b in table for l in (a[0], b[0])]
     totals = [t for a, b in table for t in (a[1], b[1])]
 

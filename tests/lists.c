@@ -199,20 +199,22 @@ static void known(void)
         everywhere(k->y, k->n, k->lambda, &line);
         chart(k->n, &line, 1);
     }
-    /* the -1.5 of RULES 2.6; a total of 0 is plus zero; a fall, a rise, and a plain level before and after it */
+    /* the -0.15 of RULES 2.6; 0.07 is rounded once; a total of 0 is plus zero; a fall, a rise, and a plain level before and after it */
     double v[2], zero = 0;
     must(dawhikura_chart_mark(2, (uint32_t[]){2}, 1, (i64[]){-3}, 1, 1, v, 2), 0);
-    must(v[0] == -1.5 && v[1] == -1.5, 1);
+    must(v[0] == -0.15 && v[1] == -0.15, 1);
+    must(dawhikura_chart_mark(10, (uint32_t[]){10}, 1, (i64[]){7}, 1, 5, v, 2), 0);
+    must(v[0] == 0.07 && v[1] == 0.07, 1);
     must(dawhikura_chart_mark(2, (uint32_t[]){2}, 1, (i64[]){0}, 1, 2, v, 2), 0);
     must(memcmp(v, &zero, 8) || memcmp(v + 1, &zero, 8), 0);
     must(dawhikura_chart_mark(2, (uint32_t[]){1, 1}, 2, (i64[]){9, 1}, 2, 1, v, 2), 2);
-    must(v[0] == 9 && v[1] == 1, 1);
+    must(v[0] == 0.9 && v[1] == 0.1, 1);
     must(dawhikura_chart_mark(4, (uint32_t[]){2, 2}, 2, (i64[]){1, 17}, 2, 2, v, 2), 1);
-    must(v[0] == 0.5 && v[1] == 8.5, 1);
+    must(v[0] == 0.05 && v[1] == 0.85, 1);
     must(dawhikura_chart_mark(4, (uint32_t[]){2, 2}, 2, (i64[]){1, 17}, 2, 1, v, 2), 0);
-    must(v[0] == 0.5 && v[1] == 0.5, 1);
+    must(v[0] == 0.05 && v[1] == 0.05, 1);
     must(dawhikura_chart_mark(4, (uint32_t[]){2, 2}, 2, (i64[]){1, 17}, 2, 4, v, 2), 0);
-    must(v[0] == 8.5 && v[1] == 8.5, 1);
+    must(v[0] == 0.85 && v[1] == 0.85, 1);
 }
 
 /* two levels 1 / (32767 * 32769) apart, of which some plot alike: the kind follows the exact ones */

@@ -338,17 +338,17 @@ i64 reference_filed(const int32_t *y, size_t n, uint64_t lambda, const uint32_t 
 /* ---- the chart */
 double reference_plot(uint32_t length, i64 total)
 {
-    /* total times 2^e over length, e such that the quotient has 53 bits; length is at most 2^16 and total at most 2^40 */
-    wide top = total < 0 ? -(wide)total : total;
+    /* total times 2^e over ten times length, e such that the quotient has 53 bits; length is at most 2^16 and total at most 2^40 */
+    wide top = total < 0 ? -(wide)total : total, bottom = 10 * (wide)length;
     int e = 0;
     if (total == 0)
         return 0;
-    while (top / length < (wide)1 << 52) {
+    while (top / bottom < (wide)1 << 52) {
         top *= 2;
         e++;
     }
-    wide quotient = top / length, twice_rest = 2 * (top % length);
-    if (twice_rest > length || (twice_rest == length && quotient % 2 == 1))
+    wide quotient = top / bottom, twice_rest = 2 * (top % bottom);
+    if (twice_rest > bottom || (twice_rest == bottom && quotient % 2 == 1))
         quotient++;
     double level = (double)(i64)quotient;
     while (e-- > 0)

@@ -83,7 +83,7 @@ i64 reference_complete(const uint8_t *s, size_t size, uint8_t *out, size_t room)
 i64 reference_filed(const int32_t *y, size_t n, uint64_t lambda, const uint32_t *length, size_t lengths, const i64 *total, size_t totals);
 
 /* ---- the chart */
-/* total / length rounded once, to the nearest, ties to even: in whole numbers */
+/* the level in seconds, total / (10 * length), rounded once, to the nearest, ties to even: in whole numbers */
 double reference_plot(uint32_t length, i64 total);
 
 /* the mark of a minute, 0 plain, 1 rise, 2 fall, with the two levels: 1, 2, 6, 7, 8, 13 */

@@ -1,4 +1,4 @@
-// The chart of a line: its segments and a mark for each minute, with plotted levels.
+// The chart of a line: its segments and a mark for each minute, with plotted levels, in seconds.
 
 ghost use mathlib.Core.Path.{_≡_};
 ghost use mathlib.Core.List.{[], _∷_};

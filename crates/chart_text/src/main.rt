@@ -1,6 +1,6 @@
 // Prints the chart of a line: its segments, each with first minute, last minute and plotted level, the mark of each minute, and the
-// segments once more, in lists. Then the step between two levels that plot alike, up and down. A plotted level is printed as the bits
-// of the f64. tests/chart_text.py makes the lines and `stdout` from exact fractions.
+// segments once more, in lists. Then the step between two levels that plot alike, up and down. A plotted level, in seconds, is printed
+// as the bits of the f64. tests/chart_text.py makes the lines and `stdout` from exact fractions.
 
 use chart::Mark;
 use chart::Piece;
@@ -107,18 +107,18 @@ fn put_chart(n: usize, lengths: &[u32], totals: &[i64]) {
 fn main() {
     put_chart(20, &lines::SMALL_LENGTHS, &lines::SMALL_TOTALS);
     put_lists(&lines::SMALL_LENGTHS, &lines::SMALL_TOTALS);
-    put_minute(65533, &lines::RISING_LENGTHS, &lines::RISING_TOTALS, 32767);
     put_minute(65533, &lines::RISING_LENGTHS, &lines::RISING_TOTALS, 32768);
+    put_minute(65533, &lines::RISING_LENGTHS, &lines::RISING_TOTALS, 32769);
     put_minute(
         65533,
         &lines::FALLING_LENGTHS,
         &lines::FALLING_TOTALS,
-        32766,
+        32765,
     );
     put_minute(
         65533,
         &lines::FALLING_LENGTHS,
         &lines::FALLING_TOTALS,
-        32767,
+        32766,
     );
 }

@@ -47,5 +47,5 @@ unfolding ofInt
 ofInt-value (pos n) h = round-whole binary64 false n h
 ofInt-value (negsuc n) h = round-whole binary64 true _ h
 
-pub quotient-is : (total : ℤ) (length : ℕ) → natAbs total ≤ 2 ^ 53 → 0 < length → length ≤ 2 ^ 53 → div binary64 (ofInt binary64 total) (ofInt binary64 (pos length)) ≡ round binary64 (negative total) (natAbs total) length
-quotient-is total length h L l = div-values (ofInt binary64 total) (ofInt binary64 (pos length)) (negative total) (natAbs total) length L (ofInt-value total h) (ofInt-value (pos length) l)
+pub quotient-is : (x : ℤ) (y : ℕ) → natAbs x ≤ 2 ^ 53 → 0 < y → y ≤ 2 ^ 53 → div binary64 (ofInt binary64 x) (ofInt binary64 (pos y)) ≡ round binary64 (negative x) (natAbs x) y
+quotient-is x y h p l = div-values (ofInt binary64 x) (ofInt binary64 (pos y)) (negative x) (natAbs x) y p (ofInt-value x h) (ofInt-value (pos y) l)

@@ -4,7 +4,7 @@ use mathlib.Core.Path.{_≡_, refl, sym, ap, ap₂, _∙_, subst}
 use mathlib.Core.List.{[], _∷_}
 use mathlib.Core.Logic.{_⊎_, inl, inr, ⊎-elim}
 use Prim.Native.Nat.{zero-le, ℕ, zero, suc, _+_, _-_, _*_, _/_, _%_, _^_, _≤_, _<_}
-use native.Mathlib.Nat.{le-trans, le-of-eq, lt-of-lt-of-le, lt-of-le-of-lt, eq-or-lt-of-le, not-le-of-lt, zero-mul, mul-one, mul-comm, mul-assoc, mul-right-comm, mul-le-mul-left, mul-le-mul-right, mul-lt-mul-of-pos-right, le-of-mul-le-mul-right, eq-of-mul-eq-mul-right, mul-pos, div-lt-iff-lt-mul}
+use native.Mathlib.Nat.{le-trans, le-of-eq, lt-of-lt-of-le, lt-of-le-of-lt, not-le-of-lt, zero-mul, mul-one, mul-comm, mul-assoc, mul-right-comm, mul-le-mul-left, mul-le-mul-right, mul-lt-mul-of-pos-right, le-of-mul-le-mul-right, eq-of-mul-eq-mul-right, mul-pos, div-lt-iff-lt-mul}
 use native.Mathlib.Omega.{arith}
 use mathlib.Core.Bool.{Bool, true, false, not, _&&_}
 use lib.Dec.{T, eqb, ltb, leb, ltb→lt, leb→le, lit<}
@@ -131,9 +131,6 @@ zero-apart x = omega arith
 zero-plus : (x : ℕ) → 0 + x ≡ apart 0 x
 zero-plus x = omega arith
 
-no-apart : (x y : ℕ) → x ≡ y → apart x y ≡ 0
-no-apart x y e = omega arith
-
 no-more : (x y : ℕ) → x + y ≤ y → x ≡ 0
 no-more x y h = omega arith
 
@@ -148,11 +145,12 @@ module _ (N div : ℕ) (P : 0 < div) (h : N < div * 2 ^ 21) where
   abbrev g : ℕ
   g = grid binary64 N div
 
-  digits : 2 ^ drop 53 (N * L) div ≤ 2 ^ 1042
-  digits = pow-mono (drop-le 21 N div P h)
+  -- the weight of its last digit, in units
+  weight : 2 ^ drop 53 (N * L) div ≤ 2 ^ 1042
+  weight = pow-mono (drop-le 21 N div P h)
 
   under : g < overflow binary64
-  under = lt-of-le-of-lt (mul-le-mul-right (2 ^ drop 53 (N * L) div) (kept-small 53 (N * L) div)) (lt-of-le-of-lt (mul-le-mul-left (2 ^ 53) digits) (lit< tt))
+  under = lt-of-le-of-lt (mul-le-mul-right (2 ^ drop 53 (N * L) div) (kept-small 53 (N * L) div)) (lt-of-le-of-lt (mul-le-mul-left (2 ^ 53) weight) (lit< tt))
 
   value : (s : Bool) → HasValue (round binary64 s N div) s g L
   value s = subst (λ (z : Float). HasValue z s g L) (sym (round-is binary64 s N div)) (units-val binary64 s (kept 53 (N * L) div) (drop 53 (N * L) div) under)
@@ -162,7 +160,7 @@ module _ (N div : ℕ) (P : 0 < div) (h : N < div * 2 ^ 21) where
 
   -- within 2 ^ -33: half of the last digit
   within : apart (g * div) (N * L) * 8589934592 ≤ div * L
-  within = half-unit (apart (g * div) (N * L)) (2 ^ drop 53 (N * L) div) div 4294967296 L (kept-half 53 (N * L) div (lit< tt) P) (mul-le-mul-right 4294967296 digits)
+  within = half-unit (apart (g * div) (N * L)) (2 ^ drop 53 (N * L) div) div 4294967296 L (kept-half 53 (N * L) div (lit< tt) P) (mul-le-mul-right 4294967296 weight)
 
   -- its rounded value, ± m * 2 ^ e
   module _ (s : Bool) (m : ℕ) (e : ℤ) (v : m * up e * L ≡ g * down e) where

@@ -1,4 +1,5 @@
-// The arithmetic of levels. A level is the exact fraction total / length: a total delay, in tenths of a second, over a number of minutes.
+// The arithmetic of levels. A level is the exact fraction total / length: a total delay, in tenths of a second, over a number of minutes. It is plotted in
+// seconds.
 
 ghost use mathlib.Core.Path.{_≡_};
 ghost use lib.IntN.{_-ℤ_};

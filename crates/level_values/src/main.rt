@@ -1,5 +1,5 @@
 // Runs outside vectors through the level library and prints a line for each: the two levels, whether the first is one, how it compares
-// with the second, and its plotted level as the bits of the f64. tests/level_values.py makes the vectors and `stdout` from exact fractions.
+// with the second, and its plotted level, in seconds, as the bits of the f64. tests/level_values.py makes the vectors and `stdout` from exact fractions.
 
 ghost use Prim.Native.Nat.{_<_};
 use level::Compared;
