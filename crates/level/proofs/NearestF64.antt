@@ -20,7 +20,7 @@ use Rattle.integers.specs.Linear.{int, dif, size as magnitude}
 use Rattle.integers.specs.Order.{le-or-lt, abs-neg}
 use Rattle.integers.specs.Ring.{ring, reify}
 use Rattle.level.specs.Limits.{Valid}
-use Rattle.level.specs.Plot.{negative, divisor, nearestTo, signed, den, distance, Even, NearestF64}
+use Rattle.level.specs.Plot.{negative, tenfold, nearestTo, signed, den, distance, Even, NearestF64}
 use Rattle.level.specs.declared.Level.{Level}
 use Rattle.level.proofs.ClosestMultiple.{apart, apart-mul}
 use Rattle.level.proofs.Significand.{kept-half, kept-best, kept-small, one-f64, even-bits}
@@ -203,7 +203,7 @@ module _ (N div : ℕ) (P : 0 < div) (h : N < div * 2 ^ 21) where
         tie 0 0 (lit< tt) (λ x. even-bits s m e 0 0 zero-le refl (v ∙ ap (λ (z : ℕ). z * down e) (sym x)))
         (equally-near (m * up e) g (down e) 0 (0 * 2 ^ 0) dd L div N v (no-units dd) (mul-pos (down-pos e) D) t′)
 
--- ---- the level a, of the sign s and the magnitude N / divisor a, in seconds
+-- ---- the level a, of the sign s and the magnitude N / tenfold a, in seconds
 module _ (a : Level) (ok : Valid a) where
   abbrev N : ℕ
   N = natAbs (a .total)
@@ -211,35 +211,35 @@ module _ (a : Level) (ok : Valid a) where
   abbrev s : Bool
   s = negative (a .total)
 
-  pub positive : 0 < divisor a
+  pub positive : 0 < tenfold a
   positive = omega (arith, ok .some)
 
   -- 16,777,216 tenths are below 2 ^ 21 seconds
-  below : N < divisor a * 2 ^ 21
+  below : N < tenfold a * 2 ^ 21
   below = omega (arith, ok .some, ok .small)
 
-  distance-same : (n : ℕ) (d : ℤ) → distance (fin s n d) a ≡ apart (n * up d * divisor a) (N * down d)
-  distance-same n d = ap (λ x. natAbs (signed s (n * up d) *ℤ pos (divisor a) -ℤ x *ℤ pos (down d))) (by-sign (a .total)) ∙ same-sign s (n * up d) N (divisor a) (down d)
+  distance-same : (n : ℕ) (d : ℤ) → distance (fin s n d) a ≡ apart (n * up d * tenfold a) (N * down d)
+  distance-same n d = ap (λ x. natAbs (signed s (n * up d) *ℤ pos (tenfold a) -ℤ x *ℤ pos (down d))) (by-sign (a .total)) ∙ same-sign s (n * up d) N (tenfold a) (down d)
 
-  distance-other : (n : ℕ) (d : ℤ) → distance (fin (not s) n d) a ≡ n * up d * divisor a + N * down d
-  distance-other n d = ap (λ x. natAbs (signed (not s) (n * up d) *ℤ pos (divisor a) -ℤ x *ℤ pos (down d))) (by-sign (a .total)) ∙ other-sign s (n * up d) N (divisor a) (down d)
+  distance-other : (n : ℕ) (d : ℤ) → distance (fin (not s) n d) a ≡ n * up d * tenfold a + N * down d
+  distance-other n d = ap (λ x. natAbs (signed (not s) (n * up d) *ℤ pos (tenfold a) -ℤ x *ℤ pos (down d))) (by-sign (a .total)) ∙ other-sign s (n * up d) N (tenfold a) (down d)
 
-  module _ (m : ℕ) (e : ℤ) (v : m * up e * 2 ^ 1074 ≡ grid binary64 N (divisor a) * down e) (f : T (fits binary64 (fin s m e))) where
+  module _ (m : ℕ) (e : ℤ) (v : m * up e * 2 ^ 1074 ≡ grid binary64 N (tenfold a) * down e) (f : T (fits binary64 (fin s m e))) where
     best-of : (y : Float) → T (fits binary64 y) → T (finite y) → distance (fin s m e) a * den y ≤ distance y a * down e
     best-of nan k t = absurd t
     best-of (inf r) k t = absurd t
     best-of (fin r n d) k t = ⊎-elim
-        (λ (q : r ≡ s). subst (λ (x : Bool). distance (fin s m e) a * down d ≤ distance (fin x n d) a * down e) (sym q) (rw (distance-same m e, distance-same n d) (same-near N (divisor a) positive below s m e v n d (of-fits r n d k))))
-        (λ (q : r ≡ not s). subst (λ (x : Bool). distance (fin s m e) a * down d ≤ distance (fin x n d) a * down e) (sym q) (rw (distance-same m e, distance-other n d) (other-near N (divisor a) positive below s m e v (n * up d * divisor a) (down d))))
+        (λ (q : r ≡ s). subst (λ (x : Bool). distance (fin s m e) a * down d ≤ distance (fin x n d) a * down e) (sym q) (rw (distance-same m e, distance-same n d) (same-near N (tenfold a) positive below s m e v n d (of-fits r n d k))))
+        (λ (q : r ≡ not s). subst (λ (x : Bool). distance (fin s m e) a * down d ≤ distance (fin x n d) a * down e) (sym q) (rw (distance-same m e, distance-other n d) (other-near N (tenfold a) positive below s m e v (n * up d * tenfold a) (down d))))
         (like r s)
 
     even-of : (y : Float) → T (fits binary64 y) → T (finite y) → (fin s m e ≡ y → ⊥) → distance (fin s m e) a * den y ≡ distance y a * down e → Even (fin s m e)
     even-of nan k t ne q = absurd t
     even-of (inf r) k t ne q = absurd t
     even-of (fin r n d) k t ne q = ⊎-elim
-        (λ (p : r ≡ s). same-tie N (divisor a) positive below s m e v f n d (subst (λ (x : Bool). T (fits binary64 (fin x n d))) p k) (λ z. ne (z ∙ ap (λ (x : Bool). fin x n d) (sym p)))
+        (λ (p : r ≡ s). same-tie N (tenfold a) positive below s m e v f n d (subst (λ (x : Bool). T (fits binary64 (fin x n d))) p k) (λ z. ne (z ∙ ap (λ (x : Bool). fin x n d) (sym p)))
         (rw (distance-same m e, distance-same n d) at (subst (λ (x : Bool). distance (fin s m e) a * down d ≡ distance (fin x n d) a * down e) p q)))
-        (λ (p : r ≡ not s). other-tie N (divisor a) positive below s m e v (n * up d * divisor a) (down d) (down-pos d)
+        (λ (p : r ≡ not s). other-tie N (tenfold a) positive below s m e v (n * up d * tenfold a) (down d) (down-pos d)
         (rw (distance-same m e, distance-other n d) at (subst (λ (x : Bool). distance (fin s m e) a * down d ≡ distance (fin x n d) a * down e) p q)))
         (like r s)
 
@@ -247,15 +247,15 @@ module _ (a : Level) (ok : Valid a) where
     nearest-at = record {
       f64 = f;
       real = tt;
-      within = rw (distance-same m e) (near N (divisor a) positive below s m e v);
+      within = rw (distance-same m e) (near N (tenfold a) positive below s m e v);
       best = best-of;
       even = even-of;
     }
 
-  of-value : (x : Float) → HasValue x s (grid binary64 N (divisor a)) (2 ^ 1074) → T (fits binary64 x) → NearestF64 a x
+  of-value : (x : Float) → HasValue x s (grid binary64 N (tenfold a)) (2 ^ 1074) → T (fits binary64 x) → NearestF64 a x
   of-value nan h f = absurd h
   of-value (inf r) h f = absurd h
   of-value (fin r m e) h f = subst (λ (x : Bool). T (fits binary64 (fin x m e)) → NearestF64 a (fin x m e)) (sym (h .0)) (nearest-at m e (h .1)) f
 
   pub nearest-f64 : NearestF64 a (nearestTo a)
-  nearest-f64 = of-value (nearestTo a) (value N (divisor a) positive below s) (round-fits binary64 s N (divisor a))
+  nearest-f64 = of-value (nearestTo a) (value N (tenfold a) positive below s) (round-fits binary64 s N (tenfold a))

@@ -21,7 +21,7 @@ use Rattle.integers.specs.Products.{*-mono<}
 use Rattle.integers.specs.Ring.{ring, reify}
 use Rattle.level.specs.Limits.{Valid}
 use Rattle.level.specs.Order.{cross}
-use Rattle.level.specs.Plot.{divisor, nearestTo, signed, num, den, NearestF64}
+use Rattle.level.specs.Plot.{tenfold, nearestTo, signed, num, den, NearestF64}
 use Rattle.level.specs.declared.Level.{Level}
 use Rattle.level.proofs.NearestF64.{positive, nearest-f64}
 
@@ -85,6 +85,7 @@ middles D E l₁ l₂ t₁ t₂ K p₁ p₂ k h g = by⩽/ (D ∷ E ∷ l₁ ∷
     two : pos 0 ⋖ pos 2
     two = ltZ-yes tt
 
+-- the same in tenths
 tenth : (t₂ t₁ l₁ l₂ : ℤ) → t₂ *ℤ (pos 10 *ℤ l₁) ⩽ t₁ *ℤ (pos 10 *ℤ l₂) → t₂ *ℤ l₁ ⩽ t₁ *ℤ l₂
 tenth t₂ t₁ l₁ l₂ h = by⩽/ (t₂ ∷ t₁ ∷ l₁ ∷ l₂ ∷ []) ten (gap h) (search reify depth 20) refl
   where
@@ -115,14 +116,14 @@ module _ (a b : Level) (h : Valid a) (k : Valid b) (v w : Float) (n : NearestF64
   -- where w were below v, b would not be above a
   crossed : E ⋖ D → cross b a ⩽ cross a b
   crossed l =
-      let p = 0⋖pos (divisor a) (positive a h) in
-      let q = 0⋖pos (divisor b) (positive b k) in
-      let f : natAbs (D *ℤ pos (divisor a) -ℤ a .total *ℤ K) ≤ natAbs (E *ℤ pos (divisor a) -ℤ a .total *ℤ K) = subst₂ _≤_ (spread (num v) (pos (divisor a)) (a .total) (den v) (den w)) (spread (num w) (pos (divisor a)) (a .total) (den w) (den v) ∙ ap (λ x. natAbs (E *ℤ pos (divisor a) -ℤ a .total *ℤ x)) swapped) (n .best w (m .f64) (m .real)) in
-      let g : natAbs (E *ℤ pos (divisor b) -ℤ b .total *ℤ K) ≤ natAbs (D *ℤ pos (divisor b) -ℤ b .total *ℤ K) = subst₂ _≤_ (spread (num w) (pos (divisor b)) (b .total) (den w) (den v) ∙ ap (λ x. natAbs (E *ℤ pos (divisor b) -ℤ b .total *ℤ x)) swapped) (spread (num v) (pos (divisor b)) (b .total) (den v) (den w)) (m .best v (n .f64) (n .real)) in
+      let p = 0⋖pos (tenfold a) (positive a h) in
+      let q = 0⋖pos (tenfold b) (positive b k) in
+      let f : natAbs (D *ℤ pos (tenfold a) -ℤ a .total *ℤ K) ≤ natAbs (E *ℤ pos (tenfold a) -ℤ a .total *ℤ K) = subst₂ _≤_ (spread (num v) (pos (tenfold a)) (a .total) (den v) (den w)) (spread (num w) (pos (tenfold a)) (a .total) (den w) (den v) ∙ ap (λ x. natAbs (E *ℤ pos (tenfold a) -ℤ a .total *ℤ x)) swapped) (n .best w (m .f64) (m .real)) in
+      let g : natAbs (E *ℤ pos (tenfold b) -ℤ b .total *ℤ K) ≤ natAbs (D *ℤ pos (tenfold b) -ℤ b .total *ℤ K) = subst₂ _≤_ (spread (num w) (pos (tenfold b)) (b .total) (den w) (den v) ∙ ap (λ x. natAbs (E *ℤ pos (tenfold b) -ℤ b .total *ℤ x)) swapped) (spread (num v) (pos (tenfold b)) (b .total) (den v) (den w)) (m .best v (n .f64) (n .real)) in
       tenth (b .total) (a .total) (pos (a .length)) (pos (b .length))
-      (middles D E (pos (divisor a)) (pos (divisor b)) (a .total) (b .total) K p q (0⋖* (0⋖pos (den v) (den-pos v)) (0⋖pos (den w) (den-pos w)))
-      (above-middle (D *ℤ pos (divisor a)) (E *ℤ pos (divisor a)) (a .total *ℤ K) (*-mono< E D (pos (divisor a)) p l) f)
-      (below-middle (D *ℤ pos (divisor b)) (E *ℤ pos (divisor b)) (b .total *ℤ K) (*-mono< E D (pos (divisor b)) q l) g))
+      (middles D E (pos (tenfold a)) (pos (tenfold b)) (a .total) (b .total) K p q (0⋖* (0⋖pos (den v) (den-pos v)) (0⋖pos (den w) (den-pos w)))
+      (above-middle (D *ℤ pos (tenfold a)) (E *ℤ pos (tenfold a)) (a .total *ℤ K) (*-mono< E D (pos (tenfold a)) p l) f)
+      (below-middle (D *ℤ pos (tenfold b)) (E *ℤ pos (tenfold b)) (b .total *ℤ K) (*-mono< E D (pos (tenfold b)) q l) g))
 
   ordered-plots : cross a b ⋖ cross b a → T (le v w)
   ordered-plots l = ⊎-elim (λ (g : E ⋖ D). let c = crossed g in absurd (omega int)) (λ (g : D ⩽ E). le-of v w (n .real) (m .real) g) (lt-or-ge E D)

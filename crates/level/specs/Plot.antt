@@ -16,13 +16,13 @@ abbrev pub negative : ℤ → Bool
 negative (pos n) = false
 negative (negsuc n) = true
 
--- a level of total / length tenths is total / divisor seconds
-abbrev pub divisor : Level → ℕ
-divisor a = 10 * a .length
+-- a level of total / length tenths is total / tenfold seconds
+abbrev pub tenfold : Level → ℕ
+tenfold a = 10 * a .length
 
 -- the exact seconds, rounded once; a total of 0 gives plus zero
 abbrev pub nearestTo : Level → Float
-nearestTo a = round binary64 (negative (a .total)) (natAbs (a .total)) (divisor a)
+nearestTo a = round binary64 (negative (a .total)) (natAbs (a .total)) (tenfold a)
 
 abbrev pub plotOf : Level → Answer Float
 plotOf a = limited a (nearestTo a)
@@ -42,9 +42,9 @@ den nan = 1
 den (inf s) = 1
 den (fin s m e) = down e
 
--- the distance of v and the seconds of a, times den v * divisor a
+-- the distance of v and the seconds of a, times den v * tenfold a
 abbrev pub distance : Float → Level → ℕ
-distance v a = natAbs (num v *ℤ pos (divisor a) -ℤ a .total *ℤ pos (den v))
+distance v a = natAbs (num v *ℤ pos (tenfold a) -ℤ a .total *ℤ pos (den v))
 
 -- the last bit of an f64 is 0
 abbrev pub Even : Float → Type 0
@@ -54,7 +54,7 @@ Even v = toBits binary64 v % 2 ≡ 0
 pub record NearestF64 (a : Level) (v : Float) : Type 0 where
   pub f64 : T (fits binary64 v)
   pub real : T (finite v)
-  pub within : distance v a * 8589934592 ≤ divisor a * den v
+  pub within : distance v a * 8589934592 ≤ tenfold a * den v
   pub best : (y : Float) → T (fits binary64 y) → T (finite y) → distance v a * den y ≤ distance y a * den v
   pub even : (y : Float) → T (fits binary64 y) → T (finite y) → (v ≡ y → ⊥) → distance v a * den y ≡ distance y a * den v → Even v
 

@@ -12,7 +12,7 @@ use mir.Val.{toZ, ofZ}
 use mir.Facts.{toZ-ofZ}
 use Rattle.integers.specs.Bounds.{fits-lt}
 use Rattle.level.specs.Limits.{Valid}
-use Rattle.level.specs.Plot.{divisor}
+use Rattle.level.specs.Plot.{tenfold}
 use Rattle.level.specs.declared.Level.{Level}
 use Rattle.level.proofs.LimitsLaws.{small}
 use Rattle.level.proofs.NearestF64.{positive}
@@ -43,7 +43,7 @@ returns : tie.Need-returns
 returns c =
     let s = c .before .before .before .before in
     let h = s .pre in
-    rw (back (s .args .a) h) (quotient-is (s .args .a .total) (divisor (s .args .a)) (omega (arith, small h .upto)) (positive (s .args .a) h) (omega (arith, h .short)))
+    rw (back (s .args .a) h) (quotient-is (s .args .a .total) (tenfold (s .args .a)) (omega (arith, small h .upto)) (positive (s .args .a) h) (omega (arith, h .short)))
 
 pub quotient-spec : {M : Type 1} → statement M
 quotient-spec = tie.close (tie.spec int-to-float-result mul-result int-to-float-result-2 returns)
