@@ -233,6 +233,18 @@ static void close_levels(void)
     must(alike > 0, 1);
 }
 
+/* seconds just above a power of two, among them some that lie all but in the middle of two doubles */
+static void near_ties(void)
+{
+    for (int e = 0; e <= 20; e++)
+        for (i64 more = 1; more < 40; more++) {
+            uint32_t length[] = {MOST - 1};
+            i64 total[] = {10 * ((i64)length[0] << e) + more};
+            must(compare_segments(length[0], length, 1, total, 1, (size_t[]){1, 1, 1}), 1);
+            must(compare_mark(length[0], length, 1, total, 1, 1, 2), 0);
+        }
+}
+
 /* ---- refusals, with those that come after them in the same call; the numbers are written by hand */
 static int32_t series[MOST + 1] = {0, 0, 9, 9};
 
@@ -455,6 +467,7 @@ int main(int argc, char **argv)
     unsigned long count = arguments(argc, argv, 40000);
     known();
     close_levels();
+    near_ties();
     writer_refusals();
     reader_refusals();
     chart_refusals();
