@@ -1,5 +1,5 @@
 /* Measures the line beside the same exact steps in C from two compilers, an exact taut string and Condat's floating-point code, on the same
- * samples; then whole sheets beside a copy of their bytes. Prints nanoseconds a minute, the best of several rounds, and ours over each. The
+ * samples; then whole sheets, and charts of their lines, beside a copy of the sheets' bytes. Prints nanoseconds a minute, the best of several rounds, and ours over each. The
  * lines of the exact methods, and the results on sheets, are first compared; a difference ends the run. */
 #define _POSIX_C_SOURCE 199309L
 #include <inttypes.h>
@@ -146,13 +146,15 @@ static void line_row(const char *name, int methods)
     fflush(stdout);
 }
 
-/* ---- whole sheets */
-enum { COPY, DRAW, CHECK, COMPLETE, CONFIRM, READ, WRITE, TASKS };
+/* ---- whole sheets, and charts of their lines */
+enum { COPY, DRAW, CHECK, COMPLETE, CONFIRM, READ, WRITE, CHART, MARK, TASKS };
 
 static uint8_t bare[SHEET], whole[SHEET], out[SHEET];
 static size_t bare_size, whole_size;
 static int32_t samples[MOST];
 static uint64_t fields[3];
+static uint32_t firsts[MOST], lasts[MOST];
+static double levels[MOST], mark[2];
 
 static int64_t handle(int task)
 {
@@ -163,11 +165,24 @@ static int64_t handle(int task)
     case COMPLETE: return dawhikura_sheet_complete(bare, bare_size, out, whole_size);
     case CONFIRM: return dawhikura_sheet_complete(whole, whole_size, out, whole_size);
     case READ: return dawhikura_sheet_read(whole, whole_size, samples, n, other.length, n, other.total, n, fields, 3);
-    default: return dawhikura_sheet_write(y, n, lambda, line.length, line.n, line.total, line.n, out, whole_size);
+    case WRITE: return dawhikura_sheet_write(y, n, lambda, line.length, line.n, line.total, line.n, out, whole_size);
+    case CHART: return dawhikura_chart_segments(n, line.length, line.n, line.total, line.n, firsts, line.n, lasts, line.n, levels, line.n);
+    default: return dawhikura_chart_mark(n, line.length, line.n, line.total, line.n, n, mark, 2);
     }
 }
 
-static const char *const names[] = {"copy", "line", "check", "complete", "complete, filed", "read", "write"};
+static const char *const names[] = {"copy", "line", "check", "complete", "complete, filed", "read", "write", "chart", "last mark"};
+
+static int charted(void)
+{
+    uint32_t minute = 0;
+    for (size_t s = 0; s < line.n; s++) {
+        if (firsts[s] != minute + 1 || lasts[s] != minute + line.length[s] || levels[s] != reference_plot(line.length[s], line.total[s]))
+            return 0;
+        minute = lasts[s];
+    }
+    return 1;
+}
 
 static int right(int task, int64_t r)
 {
@@ -177,6 +192,8 @@ static int right(int task, int64_t r)
     case READ:
         other.n = (size_t)r;
         return fields[0] == n && fields[1] == line.n && fields[2] == lambda && !memcmp(samples, y, n * sizeof y[0]) && same_line(&other, &line);
+    case CHART: return r == (int64_t)line.n && charted();
+    case MARK: return r == 0 && mark[0] == levels[line.n - 1] && mark[1] == mark[0];
     default: return r == (int64_t)whole_size && !memcmp(out, whole, whole_size);
     }
 }

@@ -35,9 +35,9 @@ def nearest(x):
     return bits | (1 << 63 if x < 0 else 0)
 
 
-def plotted(length, total):
-    """The bits of the level in seconds: a total in tenths over so many minutes."""
-    return nearest(Fraction(total, 10 * length))
+def plotted(tenths):
+    """The bits of a level, which is plotted in seconds."""
+    return nearest(tenths / 10)
 
 
 def alike():
@@ -49,7 +49,7 @@ def alike():
                 a = pow(k, -1, l)
                 t, u = l * TENTHS - a, k * TENTHS - (a * k - 1) // l
                 assert Fraction(t, l) < Fraction(u, k)
-                if plotted(l, t) == plotted(k, u):
+                if plotted(Fraction(t, l)) == plotted(Fraction(u, k)):
                     return [(l, t), (k, u)]
 
 
@@ -58,7 +58,7 @@ def segment(line, j):
         return f"segment {j} refused 13 0"
     before = sum(l for l, t in line[: j - 1])
     length, total = line[j - 1]
-    return f"segment {j} {before + 1} {before + length} {plotted(length, total):016x}"
+    return f"segment {j} {before + 1} {before + length} {plotted(Fraction(total, length)):016x}"
 
 
 def entry(line, j):
@@ -69,12 +69,11 @@ def entry(line, j):
 def mark(line, k):
     if not 1 <= k <= sum(l for l, t in line):
         return f"minute {k} refused 13 0"
-    holders = [s for s in line for _ in range(s[0])]
-    here, after = holders[k - 1], holders[k] if k < len(holders) else holders[k - 1]
-    x, y = (Fraction(t, l) for l, t in (here, after))
-    if x == y:
-        return f"minute {k} level {plotted(*here):016x}"
-    return f"minute {k} {'rise' if x < y else 'fall'} {plotted(*here):016x} {plotted(*after):016x}"
+    levels = [Fraction(t, l) for l, t in line for _ in range(l)]
+    here, after = levels[k - 1], levels[k] if k < len(levels) else levels[k - 1]
+    if here == after:
+        return f"minute {k} level {plotted(here):016x}"
+    return f"minute {k} {'rise' if here < after else 'fall'} {plotted(here):016x} {plotted(after):016x}"
 
 
 def main():
