@@ -4,11 +4,10 @@ use mathlib.Core.Logic.{_⊎_, inl, inr, ⊎-elim}
 use mathlib.Core.List.{List, [], _∷_}
 use mathlib.Core.Option.{none}
 use native.Mathlib.Omega.{arith}
-use native.Mathlib.Nat.{eq-or-lt-of-le}
 use Prim.Native.Nat.{ℕ, zero, suc, _+_, _-_, _<_, _≤_}
-use lib.ListN.{length, getD, getElem?, take, drop, drop-of-length-le}
-use lib.Seq.{take-length, take-all, drop-length, drop-cons}
-use lib.IntN.{ℤ, pos}
+use lib.ListN.{length, getElem?, take, drop}
+use lib.Seq.{take-length, take-all, drop-length}
+use lib.IntN.{ℤ}
 use Rattle.integers.specs.Order.{_⋖_, ⋖→⩽, le-or-lt}
 use Rattle.integers.specs.Linear.{lt-yes, lt-no}
 use Rattle.integers.specs.Products.{tri}
@@ -16,15 +15,14 @@ use Rattle.level.specs.Answer.{refused, given}
 use Rattle.level.specs.Order.{cross}
 use Rattle.level.specs.Plot.{NearestF64}
 use Rattle.level.proofs.NearestF64.{nearest-f64}
-use Rattle.chart.specs.Drawable.{sum}
+use Rattle.chart.specs.Drawable.{sum, nth, level-before}
 use Rattle.checker.specs.Check.{shapeOf}
 use Rattle.series.proofs.Refusals.{never}
-use Rattle.chart.specs.Chart.{Shown, plain, rise, fall, step, segment-at, mark-at, or-13, segmentOf, markOf}
-use Rattle.chart.specs.Drawable.{nth}
+use Rattle.chart.specs.Chart.{Shown, plain, rise, fall, segment-at, mark-in, mark-from, mark-at, or-13, segmentOf, markOf}
 use Rattle.chart.specs.Whole.{after, segments-from}
 use Rattle.chart.specs.declared.ChartSegment.{ChartSegment}
 use Rattle.chart.proofs.SumLaws.{sum-next}
-use Rattle.chart.proofs.LookupLaws.{segment-found, segment-lacks, mark-0, mark-inside, mark-end, skip, held}
+use Rattle.chart.proofs.LookupLaws.{segment-found, segment-lacks, mark-later, mark-inside, skip, held}
 use Rattle.chart.proofs.DrawableLaws.{Passed, passed, shaped-is}
 
 module _ (n : ℕ) (ns : List ℕ) (ts : List ℤ) (ok : shapeOf n ns ts ≡ given tt) where
@@ -53,16 +51,12 @@ module _ (n : ℕ) (ns : List ℕ) (ts : List ℤ) (ok : shapeOf n ns ts ≡ giv
       (λ (h : length ns < suc j). never (sym (ap or-13 (segment-lacks ns ts 0 (suc j) h)) ∙ segment-is (suc j) ∙ e))
       (le-or-lt (suc j) (length ns))
 
-  seg-inside : (j k : ℕ) → j < length ns → sum (take j ns) < k → k < seg j .last → markOf n ns ts k ≡ given (plain (seg j .level))
-  seg-inside j k h f g =
-      let i = k - sum (take j ns) in
-      sym (mark-is k) ∙ ap or-13 (ap (mark-at ns ts) (omega arith) ∙ skip ns ts paired j (omega arith) i (omega arith) ∙ mark-inside ns ts paired j h i (omega arith) (omega arith))
-
-  seg-end : (j : ℕ) → j < length ns → markOf n ns ts (seg j .last) ≡ given (step (nth ns ts j) (drop (suc j) ns) (drop (suc j) ts))
-  seg-end j h =
-      let i = getD ns j 0 in
-      let p = line .drawable .valid j h .some in
-      sym (mark-is (seg j .last)) ∙ ap or-13 (skip ns ts paired j (omega arith) i p ∙ mark-end ns ts paired j h i p refl)
+  seg-mark : (j k : ℕ) → j < length ns → sum (take j ns) < k → k ≤ seg j .last →
+      markOf n ns ts k ≡ given (mark-in (level-before ns ts j) (nth ns ts j) (k - seg j .first))
+  seg-mark j k h f g =
+      let i = k - seg j .first in
+      let e : k ≡ suc (sum (take j ns) + i) = omega arith in
+      sym (mark-is k) ∙ ap or-13 (ap (mark-at ns ts) e ∙ skip ns ts paired j (omega arith) i ∙ mark-inside ns ts paired j h i (omega arith))
 
   -- ---- every segment and every minute is there, and 13 comes for no other
   pub segment-there : (j : ℕ) → 0 < j → j ≤ length ns → (s : ChartSegment) × (segmentOf n ns ts j ≡ given s)
@@ -74,21 +68,18 @@ module _ (n : ℕ) (ns : List ℕ) (ts : List ℤ) (ok : shapeOf n ns ts ≡ giv
   segment-lacking j h = sym (segment-is j) ∙ ap or-13 (⊎-elim (λ (e : j ≡ 0). rw e) (λ (g : length ns < j). segment-lacks ns ts 0 j g) h)
 
   pub mark-there : (k : ℕ) → 0 < k → k ≤ n → (m : Shown) × (markOf n ns ts k ≡ given m)
-  mark-there k p h =
-      let r = held ns k p (omega (arith, line .long)) in
-      ⊎-elim (λ (e : k ≡ seg (r .j) .last). (_, ap (markOf n ns ts) e ∙ seg-end (r .j) (r .is)))
-      (λ (g : k < seg (r .j) .last). (_, seg-inside (r .j) k (r .is) (r .from) g))
-      (eq-or-lt-of-le (r .upto))
+  mark-there k p h = let r = held ns k p (omega (arith, line .long)) in (_, seg-mark (r .j) k (r .is) (r .from) (r .upto))
 
   pub mark-lacking : (k : ℕ) → (k ≡ 0) ⊎ (n < k) → markOf n ns ts k ≡ refused 13 0
-  unfolding mark-at
-  mark-lacking k h = sym (mark-is k) ∙ ap or-13 (⊎-elim (λ (e : k ≡ 0). rw e (mark-0 ns ts)) (λ (g : n < k). past g) h)
+  unfolding mark-from
+  mark-lacking k h = sym (mark-is k) ∙ ap or-13 (⊎-elim (λ (e : k ≡ 0). rw e) (λ (g : n < k). past g) h)
     where
       past : n < k → mark-at ns ts k ≡ none
       past g =
-          let i = k - n in
-          let e : k ≡ sum (take (length ns) ns) + i = rw (take-length ns, line .long) (omega arith) in
-          ap (mark-at ns ts) e ∙ skip ns ts paired (length ns) (omega arith) i (omega arith) ∙ ap (λ l. mark-at l (drop (length ns) ts) i) (drop-length ns)
+          let i = k - suc n in
+          let e : k ≡ suc (sum (take (length ns) ns) + i) = rw (take-length ns, line .long) (omega arith) in
+          let d : drop (length ns) ns ≡ [] = drop-length ns in
+          ap (mark-at ns ts) e ∙ skip ns ts paired (length ns) (omega arith) i ∙ rw d
 
   -- ---- the segments lie end to end, and each minute is in one of them
   pub first-start : (s : ChartSegment) → segmentOf n ns ts 1 ≡ given s → s .first ≡ 1
@@ -116,28 +107,32 @@ module _ (n : ℕ) (ns : List ℕ) (ts : List ℤ) (ok : shapeOf n ns ts ≡ giv
       let r = held ns k p (omega (arith, line .long)) in
       record { number = suc (r .j); segment = seg (r .j); there = seg-given (r .j) (r .is); from = omega (arith, r .from); upto = r .upto }
 
-  -- ---- the mark of a minute: the level of its segment, and at the segment's last minute the step to the next, by the exact levels
-  pub mark-within : (j k : ℕ) (s : ChartSegment) → segmentOf n ns ts (suc j) ≡ given s → s .first ≤ k → k < s .last →
-      markOf n ns ts k ≡ given (plain (s .level))
+  -- ---- the marks of a segment's minutes: at its first minute the step from the level before it, by the exact levels, else its own level
+  pub mark-within : (j k : ℕ) (s : ChartSegment) → segmentOf n ns ts (suc j) ≡ given s → s .first < k → k ≤ s .last → markOf n ns ts k ≡ given (plain (s .level))
   mark-within j k s e =
       let p = given-seg j s e in
-      subst (λ (s : ChartSegment). s .first ≤ k → k < s .last → markOf n ns ts k ≡ given (plain (s .level))) (p .1) (λ f g. seg-inside j k (p .0) (omega arith) g)
+      subst (λ (s : ChartSegment). s .first < k → k ≤ s .last → markOf n ns ts k ≡ given (plain (s .level))) (p .1) (λ f g.
+      seg-mark j k (p .0) (omega arith) g ∙ ap given (mark-later (level-before ns ts j) (nth ns ts j) (k - seg j .first) (omega arith)))
 
-  pub mark-last : (j : ℕ) (s : ChartSegment) → segmentOf n ns ts (suc j) ≡ given s → suc j ≡ length ns → markOf n ns ts (s .last) ≡ given (plain (s .level))
-  mark-last j s e f =
-      let p = given-seg j s e in
-      rw (← p .1) (rw (drop-of-length-le ns {i = suc j} (omega arith)) at (seg-end j (p .0)))
+  seg-first : (j : ℕ) → j < length ns → markOf n ns ts (seg j .first) ≡ given (mark-in (level-before ns ts j) (nth ns ts j) 0)
+  seg-first j h =
+      let e : seg j .first - seg j .first ≡ 0 = omega arith in
+      seg-mark j (seg j .first) h (omega arith) (omega (arith, line .drawable .valid j h .some)) ∙ ap (λ i. given (mark-in (level-before ns ts j) (nth ns ts j) i)) e
+
+  pub mark-start : (s : ChartSegment) → segmentOf n ns ts 1 ≡ given s → markOf n ns ts 1 ≡ given (plain (s .level))
+  unfolding sum
+  mark-start s e = let p = given-seg 0 s e in rw (← p .1) (seg-first 0 (p .0))
 
   pub mark-step : (j : ℕ) (s t : ChartSegment) → segmentOf n ns ts (suc j) ≡ given s → segmentOf n ns ts (suc (suc j)) ≡ given t →
       let a = nth ns ts j in
       let b = nth ns ts (suc j) in
-      ((cross a b ⋖ cross b a) × (markOf n ns ts (s .last) ≡ given (rise (s .level) (t .level)))) ⊎ ((cross b a ⋖ cross a b) × (markOf n ns ts (s .last) ≡ given (fall (s .level) (t .level))))
+      ((cross a b ⋖ cross b a) × (markOf n ns ts (t .first) ≡ given (rise (s .level) (t .level)))) ⊎ ((cross b a ⋖ cross a b) × (markOf n ns ts (t .first) ≡ given (fall (s .level) (t .level))))
   mark-step j s t e f =
       let p = given-seg j s e in
       let q = given-seg (suc j) t f in
       let a = nth ns ts j in
       let b = nth ns ts (suc j) in
-      let m = rw (drop-cons ns (suc j) 0 (q .0), drop-cons ts (suc j) (pos 0) (omega (arith, q .0, paired))) at (seg-end j (p .0)) in
+      let m = seg-first (suc j) (q .0) in
       ⊎-elim (λ (l : cross a b ⋖ cross b a). inl (l, rw (← p .1, ← q .1) (rw (lt-yes l) at m)))
       (⊎-elim (λ (l : cross a b ≡ cross b a). absurd (line .differ j (q .0) l)) (λ (l : cross b a ⋖ cross a b). inr (l, rw (← p .1, ← q .1) (rw (lt-no (⋖→⩽ l)) at m))))
       (tri (cross a b) (cross b a))

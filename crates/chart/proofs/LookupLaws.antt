@@ -1,19 +1,21 @@
 -- What stands at a segment's number, and at a minute after the first segments.
 use mathlib.Core.Path.{_≡_, refl, ap, _∙_}
+use mathlib.Core.Bool.{cond}
 use mathlib.Core.Logic.{⊎-elim}
 use mathlib.Core.List.{List, [], _∷_}
-use mathlib.Core.Option.{none, some}
+use mathlib.Core.Option.{Option, none, some}
 use native.Mathlib.Omega.{arith}
 use Prim.Native.Nat.{ℕ, zero, suc, _+_, _-_, _<_, _≤_}
+use lib.Dec.{ltb}
 use lib.ListN.{length, getD, take, drop}
 use lib.Seq.{drop-cons}
 use lib.IntN.{ℤ, pos}
 use borrow.Author.Tests.{lt-ltb, le-ltb, eq-eqb, ne-eqb}
 use Rattle.level.specs.Plot.{nearestTo}
+use Rattle.level.specs.declared.Level.{Level}
 use Rattle.integers.specs.Order.{le-or-lt}
-use Rattle.chart.specs.Drawable.{sum}
-use Rattle.chart.specs.Chart.{plain, step, segment-at, mark-at}
-use Rattle.chart.specs.Drawable.{nth}
+use Rattle.chart.specs.Chart.{plain, step, segment-at, mark-in, mark-from}
+use Rattle.chart.specs.Drawable.{sum, nth, level-before}
 use Rattle.chart.specs.Whole.{after}
 use Rattle.chart.proofs.SumLaws.{sum-next}
 
@@ -39,41 +41,38 @@ segment-lacks (n ∷ ns) (t ∷ ts) b (suc zero) h = absurd (omega arith)
 segment-lacks (n ∷ ns) (t ∷ ts) b (suc (suc j)) h = segment-lacks ns ts (b + n) (suc j) (omega arith)
 
 -- ---- minutes
-pub mark-0 : (ns : List ℕ) (ts : List ℤ) → mark-at ns ts 0 ≡ none
-unfolding mark-at
-mark-0 [] ts = refl
-mark-0 (n ∷ ns) [] = refl
-mark-0 (n ∷ ns) (t ∷ ts) = refl
+pub mark-first : (ns : List ℕ) (ts : List ℤ) (k : ℕ) → 0 < k → (i : ℕ) → i ≡ 0 →
+    mark-in (level-before ns ts k) (nth ns ts k) i ≡ step (nth ns ts (k - 1)) (nth ns ts k)
+mark-first ns ts zero h i e = absurd (omega arith)
+mark-first ns ts (suc k) h i e = let f : suc k - 1 ≡ k = omega arith in rw (eq-eqb i 0 e, f)
 
--- the minute i after the first k segments: in the next one, at its end, or beyond it
-module _ (ns : List ℕ) (ts : List ℤ) (l : length ns ≡ length ts) (k : ℕ) (h : k < length ns) (i : ℕ) (p : 0 < i) where
-  not-0 : i ≡ 0 → ⊥
-  not-0 e = omega arith
+pub mark-later : (old : Option Level) (b : Level) (i : ℕ) → 0 < i → mark-in old b i ≡ plain (nearestTo b)
+mark-later none b i p = refl
+mark-later (some a) b i p = rw (ne-eqb i 0 (λ e. omega arith))
 
-  pub mark-inside : i < getD ns k 0 → mark-at (drop k ns) (drop k ts) i ≡ some (plain (nearestTo (nth ns ts k)))
-  unfolding mark-at
-  mark-inside m = let g : k < length ts = omega arith in rw (drop-cons ns k 0 h, drop-cons ts k (pos 0) g, ne-eqb i 0 not-0, lt-ltb i (getD ns k 0) m)
-
-  pub mark-end : i ≡ getD ns k 0 → mark-at (drop k ns) (drop k ts) i ≡ some (step (nth ns ts k) (drop (suc k) ns) (drop (suc k) ts))
-  unfolding mark-at
-  mark-end m = let g : k < length ts = omega arith in rw (drop-cons ns k 0 h, drop-cons ts k (pos 0) g, ne-eqb i 0 not-0, le-ltb i (getD ns k 0) (omega arith), eq-eqb i (getD ns k 0) m)
-
-  pub mark-beyond : getD ns k 0 < i → mark-at (drop k ns) (drop k ts) i ≡ mark-at (drop (suc k) ns) (drop (suc k) ts) (i - getD ns k 0)
-  unfolding mark-at
-  mark-beyond m =
-      let g : k < length ts = omega arith in
-      let n : i ≡ getD ns k 0 → ⊥ = λ e. omega arith in
-      rw (drop-cons ns k 0 h, drop-cons ts k (pos 0) g, ne-eqb i 0 not-0, le-ltb i (getD ns k 0) (omega arith), ne-eqb i (getD ns k 0) n)
-
--- that minute, counted from the start of the line
+-- i minutes after the first k segments: in the next one, or beyond it
 module _ (ns : List ℕ) (ts : List ℤ) (l : length ns ≡ length ts) where
-  pub skip : (k : ℕ) → k ≤ length ns → (i : ℕ) → 0 < i → mark-at ns ts (sum (take k ns) + i) ≡ mark-at (drop k ns) (drop k ts) i
+  module _ (k : ℕ) (h : k < length ns) (i : ℕ) where
+    rest-is : mark-from (level-before ns ts k) (drop k ns) (drop k ts) i
+        ≡ cond (ltb i (getD ns k 0)) (some (mark-in (level-before ns ts k) (nth ns ts k) i)) (mark-from (some (nth ns ts k)) (drop (suc k) ns) (drop (suc k) ts) (i - getD ns k 0))
+    unfolding mark-from
+    rest-is = let g : k < length ts = omega arith in rw (drop-cons ns k 0 h, drop-cons ts k (pos 0) g)
+
+    pub mark-inside : i < getD ns k 0 → mark-from (level-before ns ts k) (drop k ns) (drop k ts) i ≡ some (mark-in (level-before ns ts k) (nth ns ts k) i)
+    mark-inside m = rw (lt-ltb i (getD ns k 0) m) at rest-is
+
+    pub mark-beyond : getD ns k 0 ≤ i →
+        mark-from (level-before ns ts k) (drop k ns) (drop k ts) i ≡ mark-from (level-before ns ts (suc k)) (drop (suc k) ns) (drop (suc k) ts) (i - getD ns k 0)
+    mark-beyond m = rw (le-ltb i (getD ns k 0) m) at rest-is
+
+  -- that minute, counted from the start of the line
+  pub skip : (k : ℕ) → k ≤ length ns → (i : ℕ) → mark-from none ns ts (sum (take k ns) + i) ≡ mark-from (level-before ns ts k) (drop k ns) (drop k ts) i
   unfolding sum
-  skip zero h i p = ap (mark-at ns ts) (omega arith)
-  skip (suc k) h i p =
+  skip zero h i = ap (mark-from none ns ts) (omega arith)
+  skip (suc k) h i =
       let m = getD ns k 0 + i in
-      ap (mark-at ns ts) (omega (arith, sum-next ns k h)) ∙ skip k (omega arith) m (omega arith) ∙ mark-beyond ns ts l k h m (omega arith) (omega arith)
-      ∙ ap (mark-at (drop (suc k) ns) (drop (suc k) ts)) (omega arith)
+      ap (mark-from none ns ts) (omega (arith, sum-next ns k h)) ∙ skip k (omega arith) m ∙ mark-beyond k h m (omega arith)
+      ∙ ap (mark-from (level-before ns ts (suc k)) (drop (suc k) ns) (drop (suc k) ts)) (omega arith)
 
 -- the segment that holds the minute k
 pub record Held (ns : List ℕ) (k : ℕ) : Type 0 where

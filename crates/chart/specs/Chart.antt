@@ -46,21 +46,25 @@ segment-at before (n ∷ ns) [] (suc j) = none
 segment-at before (n ∷ ns) (t ∷ ts) (suc zero) = some (record { first = before + 1; last = before + n; level = nearestTo (level n t) })
 segment-at before (n ∷ ns) (t ∷ ts) (suc (suc j)) = segment-at (before + n) ns ts (suc j)
 
--- the step from the level a to the one after it, by the exact levels; at the end of the line there is none
-abbrev pub step : Level → List ℕ → List ℤ → Shown
-step a [] ts = plain (nearestTo a)
-step a (n ∷ ns) [] = plain (nearestTo a)
-step a (n ∷ ns) (t ∷ ts) =
-    cond (ltZ (cross a (level n t)) (cross (level n t) a)) (rise (nearestTo a) (nearestTo (level n t))) (fall (nearestTo a) (nearestTo (level n t)))
+-- the step from the level a to the level b, by the exact levels
+abbrev pub step : Level → Level → Shown
+step a b = cond (ltZ (cross a b) (cross b a)) (rise (nearestTo a) (nearestTo b)) (fall (nearestTo a) (nearestTo b))
 
--- minute k: inside a segment its level, at a segment's last minute the step
-unfoldable pub mark-at : List ℕ → List ℤ → ℕ → Option Shown
-mark-at [] ts k = none
-mark-at (n ∷ ns) [] k = none
-mark-at (n ∷ ns) (t ∷ ts) k =
-    cond (eqb k 0) none
-    (cond (ltb k n) (some (plain (nearestTo (level n t))))
-    (cond (eqb k n) (some (step (level n t) ns ts)) (mark-at ns ts (k - n))))
+-- the mark i minutes after the start of a segment with the level b: at its first minute the step from the level before it, where there is one
+abbrev pub mark-in : Option Level → Level → ℕ → Shown
+mark-in none b i = plain (nearestTo b)
+mark-in (some a) b i = cond (eqb i 0) (step a b) (plain (nearestTo b))
+
+-- the mark i minutes after the start of a line that follows the level `old`, if any
+unfoldable pub mark-from : Option Level → List ℕ → List ℤ → ℕ → Option Shown
+mark-from old [] ts i = none
+mark-from old (n ∷ ns) [] i = none
+mark-from old (n ∷ ns) (t ∷ ts) i = cond (ltb i n) (some (mark-in old (level n t) i)) (mark-from (some (level n t)) ns ts (i - n))
+
+-- minute k
+abbrev pub mark-at : List ℕ → List ℤ → ℕ → Option Shown
+mark-at ns ts zero = none
+mark-at ns ts (suc i) = mark-from none ns ts i
 
 -- what the line lacks gets 13
 abbrev pub or-13 : {A : Type 0} → Option A → Answer A

@@ -1,17 +1,16 @@
 // The chart of a line: its segments and a mark for each minute, with plotted levels, in seconds.
 
 ghost use mathlib.Core.Path.{_≡_};
-ghost use mathlib.Core.List.{[], _∷_};
 ghost use Prim.Native.Nat.{_<_, _≤_};
-ghost use lib.ListN.{length, take, drop};
+ghost use lib.ListN.{length, take};
 ghost use lib.Signed.{ltZ};
 ghost use Rattle.level.specs.Answer.{given};
 ghost use Rattle.level.specs.Limits.{Valid};
 ghost use Rattle.level.specs.Order.{cross};
 ghost use Rattle.level.specs.Plot.{nearestTo};
 ghost use Rattle.series.specs.Answer.{refill, filled};
-ghost use Rattle.chart.specs.Chart.{piece, marked, segment-at, step, mark-at, or-13, segmentOf, markOf};
-ghost use Rattle.chart.specs.Drawable.{sum, nth, Drawable};
+ghost use Rattle.chart.specs.Chart.{piece, marked, segment-at, step, mark-in, mark-at, or-13, segmentOf, markOf};
+ghost use Rattle.chart.specs.Drawable.{sum, nth, level-before, Drawable};
 ghost use Rattle.chart.specs.Whole.{parts, segmentsOf, firstsOf, lastsOf, levelsOf};
 use level::Compared;
 use level::Level;
@@ -113,7 +112,7 @@ fn find_segment(lengths: &[u32], totals: &[i64], index: usize) -> Piece
     Piece::Segment(ChartSegment { first, last, level })
 }
 
-// One pass over the lengths: `left` is the minute's number, counted from after the segments passed.
+// One pass over the lengths: the minute comes i minutes after the start of segment k, counted from 0, or later.
 fn find_mark(lengths: &[u32], totals: &[i64], minute: usize) -> Mark
     requires { ⌜ Drawable (now lengths) (now totals) ⌝ }
     ensures { λ r. ⌜ marked r ≡ or-13 (mark-at (now (lengths .entry)) (now (totals .entry)) minute) ⌝ }
@@ -121,19 +120,13 @@ fn find_mark(lengths: &[u32], totals: &[i64], minute: usize) -> Mark
     if minute == 0 {
         return Mark::Refused(13, 0);
     }
-    let mut left = minute;
-    let mut k = 0;
-    while k < lengths.len() {
-        let a = level_at(lengths, totals, k);
-        let length = a.length as usize;
-        k += 1;
-        if left < length {
-            return Mark::Level(plotted(a));
+    let mut i = minute - 1;
+    for k in 0..lengths.len() {
+        let length = lengths[k] as usize;
+        if i < length {
+            return mark_in(lengths, totals, k, i);
         }
-        if left == length {
-            return end(a, lengths, totals, k);
-        }
-        left -= length;
+        i -= length;
     }
     Mark::Refused(13, 0)
 }
@@ -160,23 +153,28 @@ fn fill(lengths: &[u32], totals: &[i64], firsts: &mut [u32], lasts: &mut [u32], 
     }
 }
 
-// The mark at the last minute of the level a, after which the segment k, counted from 0, comes, if any.
-fn end(a: Level, lengths: &[u32], totals: &[i64], k: usize) -> Mark
-    requires { ⌜ Valid a ⌝ }
+// The mark i minutes after the start of segment k, counted from 0: a step at its first minute, where a level comes before it.
+fn mark_in(lengths: &[u32], totals: &[i64], k: usize, i: usize) -> Mark
+    requires { ⌜ k < length (now lengths) ⌝ }
     requires { ⌜ Drawable (now lengths) (now totals) ⌝ }
-    ensures { λ r. ⌜ marked r ≡ given (step a (drop k (now (lengths .entry))) (drop k (now (totals .entry)))) ⌝ }
+    ensures { λ r. ⌜ marked r ≡ given (mark-in (level-before (now (lengths .entry)) (now (totals .entry)) k)
+        (nth (now (lengths .entry)) (now (totals .entry)) k) i) ⌝ }
 {
-    if k < lengths.len() {
-        return turn(a, level_at(lengths, totals, k));
+    let b = level_at(lengths, totals, k);
+    if i > 0 {
+        return Mark::Level(plotted(b));
     }
-    Mark::Level(plotted(a))
+    if k > 0 {
+        return turn(level_at(lengths, totals, k - 1), b);
+    }
+    Mark::Level(plotted(b))
 }
 
 // The kind of a step follows the exact levels.
 fn turn(a: Level, b: Level) -> Mark
     requires { ⌜ Valid a ⌝ }
     requires { ⌜ Valid b ⌝ }
-    ensures { λ r. ⌜ marked r ≡ given (step a (b .length ∷ []) (b .total ∷ [])) ⌝ }
+    ensures { λ r. ⌜ marked r ≡ given (step a b) ⌝ }
 {
     if rises(a, b) {
         return Mark::Rise(plotted(a), plotted(b));
