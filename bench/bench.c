@@ -186,6 +186,7 @@ static int charted(void)
 
 static int right(int task, int64_t r)
 {
+    double level[2];
     switch (task) {
     case DRAW: return r == (int64_t)line.n;
     case CHECK: return r == 0;
@@ -193,7 +194,7 @@ static int right(int task, int64_t r)
         other.n = (size_t)r;
         return fields[0] == n && fields[1] == line.n && fields[2] == lambda && !memcmp(samples, y, n * sizeof y[0]) && same_line(&other, &line);
     case CHART: return r == (int64_t)line.n && charted();
-    case MARK: return r == 0 && mark[0] == levels[line.n - 1] && mark[1] == mark[0];
+    case MARK: return r == reference_mark(n, line.length, line.n, line.total, line.n, n, level) && mark[0] == level[0] && mark[1] == level[1];
     default: return r == (int64_t)whole_size && !memcmp(out, whole, whole_size);
     }
 }

@@ -60,9 +60,9 @@ int64_t dawhikura_series_check_segments(const int32_t *samples, size_t minutes, 
 int64_t dawhikura_chart_segments(size_t minutes, const uint32_t *lengths, size_t lengths_len, const int64_t *totals, size_t totals_len, uint32_t *firsts,
                                  size_t firsts_len, uint32_t *lasts, size_t lasts_len, double *levels, size_t levels_len);
 
-/* The mark of one minute of that chart: 0 for a plain level, 1 for a rise and 2 for a fall, which stand at the last minute of the old level. The first
- * two levels are the plotted ones, in seconds, before and after the step, or the plain one twice; the list needs two entries. Two close levels may plot
- * alike; the kind follows the exact ones. Refusals 1, 2, 6, 7, 8, 13, then 5. */
+/* The mark of one minute of that chart: 0 for a plain level, 1 for a rise and 2 for a fall, which stand at the first minute of the new level; minute 1
+ * is always plain. The first two levels are the plotted ones, in seconds, before and after the step, or the plain one twice; the list needs two entries.
+ * Two close levels may plot alike; the kind follows the exact ones. Refusals 1, 2, 6, 7, 8, 13, then 5. */
 int64_t dawhikura_chart_mark(size_t minutes, const uint32_t *lengths, size_t lengths_len, const int64_t *totals, size_t totals_len, size_t minute,
                              double *levels, size_t levels_len);
 

@@ -78,10 +78,13 @@ static void begin(void)
     bare_size = reference_sheet(bare, y, MOST, 50, NULL);
     list_calls(&first);
     sheet_calls(&first);
-    i64 m = (i64)line.n, size = (i64)whole_size, want[] = {m, MOST, 0, 0, m, 0, size, m, refusal(5, 0), size, size};
+    double mark[2];
+    i64 m = (i64)line.n, size = (i64)whole_size, kind = reference_mark(MOST, line.length, line.n, line.total, line.n, MOST, mark);
+    i64 want[] = {m, MOST, 0, 0, m, kind, size, m, refusal(5, 0), size, size};
     for (int i = 0; i < 11; i++)
         answers("a run", first.results[i], want[i]);
     answers("a run's line", memcmp(first.lengths, line.length, 4 * line.n) || memcmp(first.totals, line.total, 8 * line.n), 0);
+    answers("a run's mark", memcmp(first.mark, mark, sizeof mark), 0);
     answers("a run's samples", memcmp(first.samples_read, y, sizeof y), 0);
     answers("a run's line, read", memcmp(first.lengths_read, line.length, 4 * line.n) || memcmp(first.totals_read, line.total, 8 * line.n), 0);
     answers("a run's sheets", memcmp(first.written, whole, whole_size) || memcmp(first.confirmed, whole, whole_size), 0);
@@ -134,7 +137,7 @@ static void nothing(void)
     answers("dawhikura_chart_segments, no levels", dawhikura_chart_segments(2, n, 2, t, 2, a, 2, b, 2, NULL, 0), few);
     answers("dawhikura_chart_segments, nothing", dawhikura_chart_segments(2, NULL, 0, NULL, 0, NULL, 0, NULL, 0, NULL, 0), shape);
 
-    answers("dawhikura_chart_mark", dawhikura_chart_mark(2, n, 2, t, 2, 1, v, 2), 1);
+    answers("dawhikura_chart_mark", dawhikura_chart_mark(2, n, 2, t, 2, 2, v, 2), 1);
     answers("dawhikura_chart_mark, no lengths", dawhikura_chart_mark(2, NULL, 0, t, 2, 1, v, 2), shape);
     answers("dawhikura_chart_mark, no totals", dawhikura_chart_mark(2, n, 2, NULL, 0, 1, v, 2), shape);
     answers("dawhikura_chart_mark, no levels", dawhikura_chart_mark(2, n, 2, t, 2, 1, NULL, 0), few);

@@ -142,7 +142,11 @@ static void chart(size_t n, const Line *line, size_t step)
         must(compare_segments(n, line->length, m, line->total, m, (size_t[]){m - (i == 0), m - (i == 1), m - (i == 2)}), refusal(5, 0));
     for (size_t k = 1; k <= n; k += step)
         compare_mark(n, line->length, m, line->total, m, k, 2 + k % 3);
-    must(compare_mark(n, line->length, m, line->total, m, n, 2), 0);
+    /* minute 1 is plain; the last segment begins with a step, where another comes before it, and has no other */
+    size_t first = n + 1 - line->length[m - 1];
+    must(compare_mark(n, line->length, m, line->total, m, 1, 2), 0);
+    must(compare_mark(n, line->length, m, line->total, m, first, 2) > 0, m > 1);
+    must(compare_mark(n, line->length, m, line->total, m, n, 2) > 0, m > 1 && first == n);
     must(compare_mark(n, line->length, m, line->total, m, n, 1), refusal(5, 0));
     must(compare_mark(n, line->length, m, line->total, m, 0, 2), refusal(13, 0));
     must(compare_mark(n, line->length, m, line->total, m, n + 1, 1), refusal(13, 0));
@@ -199,7 +203,8 @@ static void known(void)
         everywhere(k->y, k->n, k->lambda, &line);
         chart(k->n, &line, 1);
     }
-    /* the -0.15 of RULES 2.6; 0.07 is rounded once; a total of 0 is plus zero; a fall, a rise, and a plain level before and after it */
+    /* the -0.15 of RULES 2.6; 0.07 is rounded once; a total of 0 is plus zero; a fall and a rise, each at the first minute of the new level, and the
+     * plain levels before and after them; minute 1 is plain */
     double v[2], zero = 0;
     must(dawhikura_chart_mark(2, (uint32_t[]){2}, 1, (i64[]){-3}, 1, 1, v, 2), 0);
     must(v[0] == -0.15 && v[1] == -0.15, 1);
@@ -207,12 +212,14 @@ static void known(void)
     must(v[0] == 0.07 && v[1] == 0.07, 1);
     must(dawhikura_chart_mark(2, (uint32_t[]){2}, 1, (i64[]){0}, 1, 2, v, 2), 0);
     must(memcmp(v, &zero, 8) || memcmp(v + 1, &zero, 8), 0);
-    must(dawhikura_chart_mark(2, (uint32_t[]){1, 1}, 2, (i64[]){9, 1}, 2, 1, v, 2), 2);
+    must(dawhikura_chart_mark(2, (uint32_t[]){1, 1}, 2, (i64[]){9, 1}, 2, 1, v, 2), 0);
+    must(v[0] == 0.9 && v[1] == 0.9, 1);
+    must(dawhikura_chart_mark(2, (uint32_t[]){1, 1}, 2, (i64[]){9, 1}, 2, 2, v, 2), 2);
     must(v[0] == 0.9 && v[1] == 0.1, 1);
-    must(dawhikura_chart_mark(4, (uint32_t[]){2, 2}, 2, (i64[]){1, 17}, 2, 2, v, 2), 1);
-    must(v[0] == 0.05 && v[1] == 0.85, 1);
-    must(dawhikura_chart_mark(4, (uint32_t[]){2, 2}, 2, (i64[]){1, 17}, 2, 1, v, 2), 0);
+    must(dawhikura_chart_mark(4, (uint32_t[]){2, 2}, 2, (i64[]){1, 17}, 2, 2, v, 2), 0);
     must(v[0] == 0.05 && v[1] == 0.05, 1);
+    must(dawhikura_chart_mark(4, (uint32_t[]){2, 2}, 2, (i64[]){1, 17}, 2, 3, v, 2), 1);
+    must(v[0] == 0.05 && v[1] == 0.85, 1);
     must(dawhikura_chart_mark(4, (uint32_t[]){2, 2}, 2, (i64[]){1, 17}, 2, 4, v, 2), 0);
     must(v[0] == 0.85 && v[1] == 0.85, 1);
 }
@@ -225,9 +232,10 @@ static void close_levels(void)
         double v[2];
         uint32_t up[] = {32767, 32769}, down[] = {32769, 32767};
         i64 rising[] = {16383 + 32767 * k, 16384 + 32769 * k}, falling[] = {rising[1], rising[0]};
-        must(compare_mark(MOST, up, 2, rising, 2, 32767, 2), 1);
-        must(compare_mark(MOST, down, 2, falling, 2, 32769, 2), 2);
-        must(dawhikura_chart_mark(MOST, up, 2, rising, 2, 32767, v, 2), 1);
+        must(compare_mark(MOST, up, 2, rising, 2, 32767, 2), 0);
+        must(compare_mark(MOST, up, 2, rising, 2, 32768, 2), 1);
+        must(compare_mark(MOST, down, 2, falling, 2, 32770, 2), 2);
+        must(dawhikura_chart_mark(MOST, up, 2, rising, 2, 32768, v, 2), 1);
         alike += v[0] == v[1];
     }
     must(alike > 0, 1);

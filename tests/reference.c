@@ -363,11 +363,11 @@ i64 reference_mark(size_t n, const uint32_t *length, size_t lengths, const i64 *
         return r;
     if (minute < 1 || minute > n)
         return refusal(13, 0);
-    /* the segments that hold this minute and the next one */
-    size_t a = 0, last = length[0];
+    /* the segments that hold this minute and the one before it; minute 1 has none before it */
+    size_t b = 0, last = length[0];
     while (last < minute)
-        last += length[++a];
-    size_t b = minute == last && minute < n ? a + 1 : a;
+        last += length[++b];
+    size_t a = minute > 1 && minute - 1 == last - length[b] ? b - 1 : b;
     level[0] = reference_plot(length[a], total[a]);
     level[1] = reference_plot(length[b], total[b]);
     int way = order(length[a], total[a], length[b], total[b]);

@@ -1,19 +1,24 @@
 -- The chart of a line that passes the shape check: its segments and its marks tell one line, minute by minute.
 use mathlib.Core.Path.{_≡_, refl, sym, ap, _∙_, subst}
+use mathlib.Core.Bool.{Bool, true, false, cond}
 use mathlib.Core.Logic.{_⊎_, inl, inr, ⊎-elim}
 use mathlib.Core.List.{List, [], _∷_}
-use mathlib.Core.Option.{none}
+use mathlib.Core.Option.{Option, none, some}
 use native.Mathlib.Omega.{arith}
 use Prim.Native.Nat.{ℕ, zero, suc, _+_, _-_, _<_, _≤_}
+use lib.Dec.{eqb}
 use lib.ListN.{length, getElem?, take, drop}
 use lib.Seq.{take-length, take-all, drop-length}
 use lib.IntN.{ℤ}
+use lib.Signed.{ltZ}
+use lib.Ieee.{Float}
 use Rattle.integers.specs.Order.{_⋖_, ⋖→⩽, le-or-lt}
 use Rattle.integers.specs.Linear.{lt-yes, lt-no}
 use Rattle.integers.specs.Products.{tri}
-use Rattle.level.specs.Answer.{refused, given}
+use Rattle.level.specs.Answer.{Answer, refused, given}
 use Rattle.level.specs.Order.{cross}
-use Rattle.level.specs.Plot.{NearestF64}
+use Rattle.level.specs.Plot.{nearestTo, NearestF64}
+use Rattle.level.specs.declared.Level.{Level}
 use Rattle.level.proofs.NearestF64.{nearest-f64}
 use Rattle.chart.specs.Drawable.{sum, nth, level-before}
 use Rattle.checker.specs.Check.{shapeOf}
@@ -25,6 +30,31 @@ use Rattle.chart.proofs.SumLaws.{sum-next}
 use Rattle.chart.proofs.LookupLaws.{segment-found, segment-lacks, mark-later, mark-inside, skip, held}
 use Rattle.chart.proofs.DrawableLaws.{Passed, passed, shaped-is}
 
+-- ---- what a mark says: the level of its own minute, and whether it is a step
+abbrev pub own : Shown → Float
+own (plain v) = v
+own (rise v w) = w
+own (fall v w) = w
+
+own-of : (c : Bool) (p q : Shown) {v : Float} → own p ≡ v → own q ≡ v → own (cond c p q) ≡ v
+own-of true p q e f = e
+own-of false p q e f = f
+
+own-in : (old : Option Level) (b : Level) (i : ℕ) → own (mark-in old b i) ≡ nearestTo b
+own-in none b i = refl
+own-in (some a) b i = own-of (eqb i 0) _ _ (own-of (ltZ (cross a b) (cross b a)) _ _ refl refl) refl
+
+abbrev pub Step : Answer Shown → Type 0
+Step (refused number place) = ⊥
+Step (given (plain v)) = ⊥
+Step (given (rise v w)) = Unit
+Step (given (fall v w)) = Unit
+
+either : (c : Bool) (v w : Float) → Step (given (cond c (rise v w) (fall v w)))
+either true v w = tt
+either false v w = tt
+
+-- ---- a line that passes
 module _ (n : ℕ) (ns : List ℕ) (ts : List ℤ) (ok : shapeOf n ns ts ≡ given tt) where
   line : Passed n ns ts
   line = passed n ns ts ok
@@ -136,6 +166,43 @@ module _ (n : ℕ) (ns : List ℕ) (ts : List ℤ) (ok : shapeOf n ns ts ≡ giv
       ⊎-elim (λ (l : cross a b ⋖ cross b a). inl (l, rw (← p .1, ← q .1) (rw (lt-yes l) at m)))
       (⊎-elim (λ (l : cross a b ≡ cross b a). absurd (line .differ j (q .0) l)) (λ (l : cross b a ⋖ cross a b). inr (l, rw (← p .1, ← q .1) (rw (lt-no (⋖→⩽ l)) at m))))
       (tri (cross a b) (cross b a))
+
+  -- each minute's mark carries its segment's level
+  pub mark-level : (j k : ℕ) (s : ChartSegment) → segmentOf n ns ts (suc j) ≡ given s → s .first ≤ k → k ≤ s .last →
+      (m : Shown) × ((markOf n ns ts k ≡ given m) × (own m ≡ s .level))
+  mark-level j k s e =
+      let p = given-seg j s e in
+      subst (λ (s : ChartSegment). s .first ≤ k → k ≤ s .last → (m : Shown) × ((markOf n ns ts k ≡ given m) × (own m ≡ s .level))) (p .1) (λ f g.
+      (_, (seg-mark j k (p .0) (omega arith) g, own-in (level-before ns ts j) (nth ns ts j) (k - seg j .first))))
+
+  -- steps stand exactly at the first minutes of the segments after the first
+  pub record Started (k : ℕ) : Type 0 where
+    pub number : ℕ
+    pub segment : ChartSegment
+    pub there : segmentOf n ns ts (suc (suc number)) ≡ given segment
+    pub at : k ≡ segment .first
+
+  pub step-there : (k : ℕ) → Started k → Step (markOf n ns ts k)
+  step-there k r =
+      let j = r .number in
+      let p = given-seg (suc j) (r .segment) (r .there) in
+      let a = nth ns ts j in
+      let b = nth ns ts (suc j) in
+      rw (r .at, ← p .1, seg-first (suc j) (p .0)) (either (ltZ (cross a b) (cross b a)) (nearestTo a) (nearestTo b))
+
+  started : (j k : ℕ) → j < length ns → sum (take j ns) < k → k ≤ seg j .last → Step (markOf n ns ts k) → Started k
+  started zero k h f g x = absurd (subst Step (seg-mark zero k h f g) x)
+  started (suc j) k h f g x =
+      ⊎-elim (λ (e : k ≤ seg (suc j) .first). record { number = j; segment = seg (suc j); there = seg-given (suc j) h; at = omega arith })
+      (λ (l : seg (suc j) .first < k). absurd (subst Step (mark-within (suc j) k (seg (suc j)) (seg-given (suc j) h) l g) x))
+      (le-or-lt k (seg (suc j) .first))
+
+  pub step-only : (k : ℕ) → Step (markOf n ns ts k) → Started k
+  step-only zero x = absurd (subst Step (mark-lacking zero (inl refl)) x)
+  step-only (suc k) x =
+      ⊎-elim (λ (h : suc k ≤ n). let r = held ns (suc k) (omega arith) (omega (arith, line .long)) in started (r .j) (suc k) (r .is) (r .from) (r .upto) x)
+      (λ (h : n < suc k). absurd (subst Step (mark-lacking (suc k) (inr h)) x))
+      (le-or-lt (suc k) n)
 
   -- ---- the levels shown
   pub level-nearest : (j : ℕ) (s : ChartSegment) → segmentOf n ns ts (suc j) ≡ given s → NearestF64 (nth ns ts j) (s .level)

@@ -10,7 +10,7 @@ use lib.Dec.{ltb}
 use lib.ListN.{length, getD, take, drop}
 use lib.Seq.{drop-cons}
 use lib.IntN.{ℤ, pos}
-use borrow.Author.Tests.{lt-ltb, le-ltb, eq-eqb, ne-eqb}
+use borrow.Author.Tests.{lt-ltb, le-ltb, ne-eqb}
 use Rattle.level.specs.Plot.{nearestTo}
 use Rattle.level.specs.declared.Level.{Level}
 use Rattle.integers.specs.Order.{le-or-lt}
@@ -44,7 +44,7 @@ segment-lacks (n ∷ ns) (t ∷ ts) b (suc (suc j)) h = segment-lacks ns ts (b +
 pub mark-first : (ns : List ℕ) (ts : List ℤ) (k : ℕ) → 0 < k → (i : ℕ) → i ≡ 0 →
     mark-in (level-before ns ts k) (nth ns ts k) i ≡ step (nth ns ts (k - 1)) (nth ns ts k)
 mark-first ns ts zero h i e = absurd (omega arith)
-mark-first ns ts (suc k) h i e = let f : suc k - 1 ≡ k = omega arith in rw (eq-eqb i 0 e, f)
+mark-first ns ts (suc k) h i e = let f : suc k - 1 ≡ k = omega arith in rw (e, f)
 
 pub mark-later : (old : Option Level) (b : Level) (i : ℕ) → 0 < i → mark-in old b i ≡ plain (nearestTo b)
 mark-later none b i p = refl

@@ -61,7 +61,7 @@ mark-from old [] ts i = none
 mark-from old (n ∷ ns) [] i = none
 mark-from old (n ∷ ns) (t ∷ ts) i = cond (ltb i n) (some (mark-in old (level n t) i)) (mark-from (some (level n t)) ns ts (i - n))
 
--- minute k
+-- minute k, counted from 1
 abbrev pub mark-at : List ℕ → List ℤ → ℕ → Option Shown
 mark-at ns ts zero = none
 mark-at ns ts (suc i) = mark-from none ns ts i

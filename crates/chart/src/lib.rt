@@ -30,7 +30,7 @@ pub enum Piece {
     Refused(u32, usize),
 }
 
-// The mark of a minute: a plain level, or a step, with the plotted levels before and after it.
+// The mark of a minute: a plain level or, at the first minute of a new level, a step, with the plotted levels before and after it.
 pub enum Mark {
     Level(f64),
     Rise(f64, f64),
@@ -112,7 +112,7 @@ fn find_segment(lengths: &[u32], totals: &[i64], index: usize) -> Piece
     Piece::Segment(ChartSegment { first, last, level })
 }
 
-// One pass over the lengths: the minute comes i minutes after the start of segment k, counted from 0, or later.
+// One pass over the lengths: the minute sought comes i minutes after the start of segment k, counted from 0.
 fn find_mark(lengths: &[u32], totals: &[i64], minute: usize) -> Mark
     requires { ⌜ Drawable (now lengths) (now totals) ⌝ }
     ensures { λ r. ⌜ marked r ≡ or-13 (mark-at (now (lengths .entry)) (now (totals .entry)) minute) ⌝ }

@@ -1,10 +1,10 @@
 -- `chart::find_mark` meets its contract: the mark i minutes after the start of segment k is the mark sought.
 use borrow.Author.Needs.{needs}
-use mathlib.Core.Path.{_≡_, refl, sym, ap, _∙_}
+use mathlib.Core.Path.{_≡_, sym, ap, _∙_}
 use native.Mathlib.Numerals.{add-one}
 use native.Mathlib.Omega.{arith}
-use Prim.Native.Nat.{suc, _-_, _<_, _≤_}
-use lib.ListN.{length, getD, drop, drop-of-length-le}
+use Prim.Native.Nat.{suc, _-_, _≤_}
+use lib.ListN.{length, drop, drop-of-length-le}
 use Rattle.chart.specs.Chart.{mark-from, mark-at, or-13}
 use Rattle.chart.specs.Drawable.{level-before}
 use Rattle.chart.proofs.LookupLaws.{mark-inside, mark-beyond}
@@ -24,10 +24,7 @@ sub-i : tie.Need-sub-i Inv-loop μ-loop
 sub-i c = omega arith
 
 loop-holds : tie.Need-loop-holds Inv-loop μ-loop
-loop-holds c =
-    let g = c .before .before .args in
-    let e : g .minute ≡ suc (g .minute - 1) = omega arith in
-    (omega arith, ap (mark-at (g .lengths .now) (g .totals .now)) (sym e))
+loop-holds c = let g = c .before .before .args in (omega arith, ap (mark-at (g .lengths .now) (g .totals .now)) {x = suc _} {y = g .minute} (omega arith))
 
 mul-length : tie.Need-mul-length Inv-loop μ-loop
 mul-length c = omega arith
