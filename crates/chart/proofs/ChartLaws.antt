@@ -178,22 +178,27 @@ module _ (n : ℕ) (ns : List ℕ) (ts : List ℤ) (ok : shapeOf n ns ts ≡ giv
   -- steps stand exactly at the first minutes of the segments after the first
   pub record Started (k : ℕ) : Type 0 where
     pub number : ℕ
+    pub later : 1 < number
     pub segment : ChartSegment
-    pub there : segmentOf n ns ts (suc (suc number)) ≡ given segment
+    pub there : segmentOf n ns ts number ≡ given segment
     pub at : k ≡ segment .first
 
-  pub step-there : (k : ℕ) → Started k → Step (markOf n ns ts k)
-  step-there k r =
-      let j = r .number in
-      let p = given-seg (suc j) (r .segment) (r .there) in
+  starts : (j : ℕ) → 1 < j → (s : ChartSegment) → segmentOf n ns ts j ≡ given s → Step (markOf n ns ts (s .first))
+  starts zero h s e = absurd (omega arith)
+  starts (suc zero) h s e = absurd (omega arith)
+  starts (suc (suc j)) h s e =
+      let p = given-seg (suc j) s e in
       let a = nth ns ts j in
       let b = nth ns ts (suc j) in
-      rw (r .at, ← p .1, seg-first (suc j) (p .0)) (either (ltZ (cross a b) (cross b a)) (nearestTo a) (nearestTo b))
+      rw (← p .1, seg-first (suc j) (p .0)) (either (ltZ (cross a b) (cross b a)) (nearestTo a) (nearestTo b))
+
+  pub step-there : (k : ℕ) → Started k → Step (markOf n ns ts k)
+  step-there k r = rw (r .at) (starts (r .number) (r .later) (r .segment) (r .there))
 
   started : (j k : ℕ) → j < length ns → sum (take j ns) < k → k ≤ seg j .last → Step (markOf n ns ts k) → Started k
   started zero k h f g x = absurd (subst Step (seg-mark zero k h f g) x)
   started (suc j) k h f g x =
-      ⊎-elim (λ (e : k ≤ seg (suc j) .first). record { number = j; segment = seg (suc j); there = seg-given (suc j) h; at = omega arith })
+      ⊎-elim (λ (e : k ≤ seg (suc j) .first). record { number = suc (suc j); later = omega arith; segment = seg (suc j); there = seg-given (suc j) h; at = omega arith })
       (λ (l : seg (suc j) .first < k). absurd (subst Step (mark-within (suc j) k (seg (suc j)) (seg-given (suc j) h) l g) x))
       (le-or-lt k (seg (suc j) .first))
 
