@@ -40,8 +40,7 @@ plotted-requires-2 c κs = search needs
 
 returns-3 : tie.Need-returns-3
 returns-3 c =
-    let t = c .before in
-    let l = t .before .before in
+    let l = c .before .before .before in
     let e : l .before .before .args .k ≡ 0 = omega arith in
     rw (c .plotted2 .ensures, l .level-at .ensures .0, e)
 
