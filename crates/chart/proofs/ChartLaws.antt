@@ -23,7 +23,7 @@ use Rattle.level.proofs.NearestF64.{nearest-f64}
 use Rattle.chart.specs.Drawable.{sum, nth, level-before}
 use Rattle.checker.specs.Check.{shapeOf}
 use Rattle.series.proofs.Refusals.{never}
-use Rattle.chart.specs.Chart.{Shown, plain, rise, fall, segment-at, mark-in, mark-from, mark-at, or-13, segmentOf, markOf}
+use Rattle.chart.specs.Chart.{Shown, plain, rise, fall, step, segment-at, mark-in, mark-from, mark-at, or-13, segmentOf, markOf}
 use Rattle.chart.specs.Whole.{after, segments-from}
 use Rattle.chart.specs.declared.ChartSegment.{ChartSegment}
 use Rattle.chart.proofs.SumLaws.{sum-next}
@@ -36,23 +36,22 @@ own (plain v) = v
 own (rise v w) = w
 own (fall v w) = w
 
-own-of : (c : Bool) (p q : Shown) {v : Float} → own p ≡ v → own q ≡ v → own (cond c p q) ≡ v
-own-of true p q e f = e
-own-of false p q e f = f
-
-own-in : (old : Option Level) (b : Level) (i : ℕ) → own (mark-in old b i) ≡ nearestTo b
-own-in none b i = refl
-own-in (some a) b i = own-of (eqb i 0) _ _ (own-of (ltZ (cross a b) (cross b a)) _ _ refl refl) refl
-
 abbrev pub Step : Answer Shown → Type 0
 Step (refused number place) = ⊥
 Step (given (plain v)) = ⊥
 Step (given (rise v w)) = Unit
 Step (given (fall v w)) = Unit
 
-either : (c : Bool) (v w : Float) → Step (given (cond c (rise v w) (fall v w)))
-either true v w = tt
-either false v w = tt
+either : (P : Shown → Type 0) (c : Bool) (p q : Shown) → P p → P q → P (cond c p q)
+either P true p q x y = x
+either P false p q x y = y
+
+own-in : (old : Option Level) (b : Level) (i : ℕ) → own (mark-in old b i) ≡ nearestTo b
+own-in none b i = refl
+own-in (some a) b i = let P : Shown → Type 0 = λ m. own m ≡ nearestTo b in either P (eqb i 0) _ _ (either P (ltZ (cross a b) (cross b a)) _ _ refl refl) refl
+
+step-is : (a b : Level) → Step (given (step a b))
+step-is a b = either (λ m. Step (given m)) (ltZ (cross a b) (cross b a)) _ _ tt tt
 
 -- ---- a line that passes
 module _ (n : ℕ) (ns : List ℕ) (ts : List ℤ) (ok : shapeOf n ns ts ≡ given tt) where
@@ -186,11 +185,7 @@ module _ (n : ℕ) (ns : List ℕ) (ts : List ℤ) (ok : shapeOf n ns ts ≡ giv
   starts : (j : ℕ) → 1 < j → (s : ChartSegment) → segmentOf n ns ts j ≡ given s → Step (markOf n ns ts (s .first))
   starts zero h s e = absurd (omega arith)
   starts (suc zero) h s e = absurd (omega arith)
-  starts (suc (suc j)) h s e =
-      let p = given-seg (suc j) s e in
-      let a = nth ns ts j in
-      let b = nth ns ts (suc j) in
-      rw (← p .1, seg-first (suc j) (p .0)) (either (ltZ (cross a b) (cross b a)) (nearestTo a) (nearestTo b))
+  starts (suc (suc j)) h s e = let p = given-seg (suc j) s e in rw (← p .1, seg-first (suc j) (p .0)) (step-is (nth ns ts j) (nth ns ts (suc j)))
 
   pub step-there : (k : ℕ) → Started k → Step (markOf n ns ts k)
   step-there k r = rw (r .at) (starts (r .number) (r .later) (r .segment) (r .there))
