@@ -1,6 +1,6 @@
 /* Measures the line beside the same exact steps in C from two compilers, an exact taut string and Condat's floating-point code, on the same
- * samples; then whole sheets, and charts of their lines, beside a copy of the sheets' bytes. Prints nanoseconds a minute, the best of several rounds, and ours over each. The
- * lines of the exact methods, and the results on sheets, are first compared; a difference ends the run. */
+ * samples; then whole sheets, and charts of their lines, beside a copy of the sheets' bytes. Prints nanoseconds a minute, the best of several rounds,
+ * and ours over each. The lines of the exact methods, and the results on sheets and of charts, are first compared; a difference ends the run. */
 #define _POSIX_C_SOURCE 199309L
 #include <inttypes.h>
 #include <stdio.h>
