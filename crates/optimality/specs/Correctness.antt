@@ -19,6 +19,7 @@ use Rattle.optimality.specs.Series.{Minute, plain-minute, plain, Positiv
 use Rattle.optimality.specs.Search.{found}
 use Rattle.optimality.specs.Segments.{Segment, cross, total-length, Differs, Proper, weigh, Weighed, then-v, by-divisor, side, outside, break-from, first-break, IsLine}
 use Rattle.optimality.specs.Machine.{Increments, increments, plain-increments, line, plain-line}
+use Rattle.optimality.specs.PlainSeries.{length-plain}
 use Rattle.optimality.specs.Fractions.{_≺_}
 use Rattle.optimality.specs.Tube.{ValidIncrements, plain-valid, prefix, Side, floor, roof, lt, W, R, edge, edge-is, back-z, start-is}
 use Rattle.optimality.specs.TubePath.{level, Piece, Turn, Path}
@@ -222,3 +223,14 @@ plain-correct L ys some smooth =
     subst (λ l. IsLine L (pos 0) (pos 0) (plain ys) l) (plain-line-same L ys)
     (path-line L (pos 0) (pos 0) (plain ys) (line (increments L (pos 0) (pos 0) (plain ys)))
     (line-path (increments L (pos 0) (pos 0) (plain ys)) (subst ValidIncrements (sym (plain-same L ys)) (plain-valid L ys some smooth))))
+
+-- no more segments than minutes
+no-more : (ss : List Segment) → Proper ss → length ss ≤ total-length ss
+unfolding Proper total-length
+no-more [] p = omega arith
+no-more (s ∷ ss) p = omega (arith, no-more ss (p .2), p .0)
+
+pub plain-few : (L : ℤ) (ys : List ℤ) → 0 < length ys → pos 0 ⩽ L → length (plain-line L ys) ≤ length ys
+plain-few L ys some smooth =
+    let f = plain-correct L ys some smooth .formed in
+    omega (arith, no-more (plain-line L ys) (f .proper), f .long, length-plain ys)

@@ -1,7 +1,7 @@
 -- Lists that get no refusal: a series within the limits, with no line or with its line, which has no more segments than the series has minutes.
 use mathlib.Core.Path.{_≡_, refl, _∙_}
 use mathlib.Core.Bool.{Bool, true, false, _&&_, and-eq-true-iff}
-use mathlib.Core.List.{List, [], _∷_}
+use mathlib.Core.List.{List}
 use mathlib.Core.Logic.{_⊎_, inl, inr, ⊎-elim}
 use Prim.Native.Nat.{ℕ, _<_, _≤_}
 use native.Mathlib.Omega.{arith}
@@ -10,10 +10,9 @@ use lib.Dec.{eqb}
 use lib.ListN.{length, length-map}
 use lib.IntN.{ℤ, pos}
 use Rattle.integers.specs.Order.{0⩽pos}
-use Rattle.optimality.specs.Segments.{Segment, total-length, Proper}
-use Rattle.optimality.specs.PlainSeries.{length-plain, line-lengths, line-totals}
+use Rattle.optimality.specs.PlainSeries.{line-lengths, line-totals}
 use Rattle.optimality.specs.Machine.{plain-line}
-use Rattle.optimality.specs.Correctness.{plain-correct}
+use Rattle.optimality.specs.Correctness.{plain-few}
 use Rattle.series.specs.Limits.{in-limits}
 use Rattle.checker.specs.Check.{meets-conditions}
 use Rattle.series.proofs.LimitsLaws.{limits-given, limits-passed}
@@ -23,16 +22,9 @@ use Rattle.series.specs.Answer.{passing}
 use Rattle.optimality.specs.Series.{Limited}
 use Rattle.sheet.specs.Read.{unless, filed}
 
-no-more : (ss : List Segment) → Proper ss → length ss ≤ total-length ss
-unfolding Proper total-length
-no-more [] p = omega arith
-no-more (s ∷ ss) p = omega (arith, no-more ss (p .2), p .0)
-
 module _ (ys : List ℤ) (L : ℕ) where
   pub line-few : 0 < length ys → length (plain-line (pos L) ys) ≤ length ys
-  line-few h =
-      let f = plain-correct (pos L) ys h (0⩽pos L) .formed in
-      omega (arith, no-more (plain-line (pos L) ys) (f .proper), f .long, length-plain ys)
+  line-few h = plain-few (pos L) ys h (0⩽pos L)
 
   -- no line, or the line
   abbrev Own : List ℕ → List ℤ → Type 0
