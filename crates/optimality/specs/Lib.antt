@@ -6,6 +6,7 @@ pub mod Segments
 pub mod Cost
 pub mod Minimum
 pub mod Machine
+pub mod TenSteps
 -- Laws: what meets the conditions is the minimum, and the only one.
 pub mod ConditionsLaws
 pub mod Scales
@@ -28,4 +29,10 @@ pub mod MachineLaws
 pub mod Correctness
 pub mod SmallNumbers
 pub mod Known
+-- Laws: the ten steps as printed are the machine's.
+pub mod FractionLaws
+pub mod SameValues
+pub mod TenStepsLaws
+pub mod TenStepsLine
+-- All of it in one place.
 pub mod Theorems

@@ -1,5 +1,5 @@
 -- What is proved of the line of a plain series, in one place: it meets (6) and (7), it alone does, it is the minimum (RULES 2.3, 2.5), its
--- totals add up to the samples, and its levels stay in the samples' range.
+-- totals add up to the samples, its levels stay in the samples' range, and the ten steps as the paper prints them write it.
 use mathlib.Core.Path.{_≡_}
 use mathlib.Core.List.{List}
 use Prim.Native.Nat.{ℕ, _<_}
@@ -19,6 +19,8 @@ use Rattle.optimality.specs.MinimumLaws.{plain-minimum}
 use Rattle.optimality.specs.Totals.{plain-totals}
 use Rattle.optimality.specs.SampleRange.{Within, in-range}
 use Rattle.optimality.specs.Correctness.{plain-correct}
+use Rattle.optimality.specs.TenSteps.{solution}
+use Rattle.optimality.specs.TenStepsLine.{Writes, printed-line}
 
 module _ (L : ℤ) (ys : List ℤ) (some : 0 < length ys) (smooth : pos 0 ⩽ L) where
   pub meets : IsLine L (pos 0) (pos 0) (plain ys) (plain-line L ys)
@@ -39,3 +41,7 @@ module _ (L : ℤ) (ys : List ℤ) (some : 0 < length ys) (smooth : pos 0 ⩽ L)
 
   pub in-samples-range : (B : ℕ) → Bounded B (plain ys) → Within B (plain-line L ys)
   in-samples-range B h = in-range L B (plain ys) (plain-line L ys) (plain-positive ys) smooth h meets
+
+  -- the ten steps as printed
+  pub printed : Writes 0 (solution L ys) (plain-line L ys)
+  printed = printed-line L ys some smooth

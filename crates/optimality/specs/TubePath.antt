@@ -25,7 +25,7 @@ level g = fraction (g .total) (pos (g .divisor))
 arrive-z : (z c : ℤ) → c ≡ z +ℤ (c -ℤ z)
 arrive-z z c = ring (z ∷ c ∷ []) (search reify depth 20) refl
 
-abs-z : (x : ℤ) → pos 0 ⋖ x → pos (natAbs x) ≡ x
+pub abs-z : (x : ℤ) → pos 0 ⋖ x → pos (natAbs x) ≡ x
 abs-z x h = omega (int, size x)
 
 module _ (d : Increments) where
