@@ -147,11 +147,12 @@ static void line_row(const char *name, int methods)
 }
 
 /* ---- whole sheets, and charts of their lines */
-enum { COPY, DRAW, CHECK, COMPLETE, CONFIRM, READ, WRITE, CHART, MARK, TASKS };
+enum { COPY, DRAW, BALANCES, CHECK, COMPLETE, CONFIRM, READ, WRITE, CHART, MARK, TASKS };
 
 static uint8_t bare[SHEET], whole[SHEET], out[SHEET];
 static size_t bare_size, whole_size;
 static int32_t samples[MOST];
+static i64 duals[MOST];
 static uint64_t fields[3];
 static uint32_t firsts[MOST], lasts[MOST];
 static double levels[MOST], mark[2];
@@ -161,6 +162,7 @@ static int64_t handle(int task)
     switch (task) {
     case COPY: memcpy(out, whole, whole_size); return (int64_t)whole_size;
     case DRAW: return draw(OURS);
+    case BALANCES: return dawhikura_series_balances(y, n, lambda, duals, n);
     case CHECK: return dawhikura_series_check(y, n, lambda, line.length, line.n, line.total, line.n);
     case COMPLETE: return dawhikura_sheet_complete(bare, bare_size, out, whole_size);
     case CONFIRM: return dawhikura_sheet_complete(whole, whole_size, out, whole_size);
@@ -171,7 +173,24 @@ static int64_t handle(int task)
     }
 }
 
-static const char *const names[] = {"copy", "line", "check", "complete", "complete, filed", "read", "write", "chart", "last mark"};
+static const char *const names[] = {"copy", "line", "balances", "check", "complete", "complete, filed", "read", "write", "chart", "last mark"};
+
+static int balanced(void)
+{
+    i64 u = 0;
+    size_t k = 0;
+    for (size_t s = 0; s < line.n; s++) {
+        i64 v = line.length[s] * u;
+        for (uint32_t i = 0; i < line.length[s]; i++, k++) {
+            u += y[k];
+            v += line.length[s] * (i64)y[k] - line.total[s];
+            if (duals[k] != v)
+                return 0;
+        }
+        u -= line.total[s];
+    }
+    return 1;
+}
 
 static int charted(void)
 {
@@ -189,6 +208,7 @@ static int right(int task, int64_t r)
     double level[2];
     switch (task) {
     case DRAW: return r == (int64_t)line.n;
+    case BALANCES: return r == (int64_t)n && balanced();
     case CHECK: return r == 0;
     case READ:
         other.n = (size_t)r;

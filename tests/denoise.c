@@ -1,5 +1,6 @@
 /* Compares line, balances and the two checks, through their C entries, with other implementations of docs/RULES.md: every pattern of rises and
- * falls for short series, a taut string with two hulls for long ones, the conditions minute by minute for checks. Every refusal beside those that come
+ * falls for short series, the ten steps of Condat 2013 as printed for those of up to a day, a taut string with two hulls for all, the conditions minute by
+ * minute for checks. Every refusal beside those that come
  * after it. Prints one line of counts, or the first input on which they differ.
  *
  *     denoise [COUNT [GUARD]]      COUNT lists of any shape (default 200000)
@@ -140,8 +141,28 @@ static void compare_checks(const int32_t *y, size_t n, uint64_t lambda, const Li
     compare_changed(y, n, lambda, line, rounds);
 }
 
+/* the ten steps as printed draw it too; `set` counts the segments that each of them sets. The library's balances take 63 segments at a time: of the last ones
+ * of such a run, `paused` counts the steps */
+static unsigned long set[11], paused[11];
+
+static void compare_printed(const int32_t *y, size_t n, uint64_t lambda, const Line *line)
+{
+    static Line printed;
+    static int step[MOST];
+    hand_series("the ten steps as printed", y, n, lambda, line);
+    reference_line_printed(y, n, lambda, &printed, step);
+    if (!same_line(&printed, line))
+        fail("another line");
+    for (size_t s = 0; s < printed.n; s++) {
+        set[step[s]]++;
+        paused[step[s]] += s % 63 == 62;
+    }
+}
+
 static void compare_all(const int32_t *y, size_t n, uint64_t lambda, const Line *line, int rounds)
 {
+    if (n <= 1440)
+        compare_printed(y, n, lambda, line);
     compare_line(y, n, lambda, line);
     compare_balances(y, n, lambda, line);
     compare_checks(y, n, lambda, line, 0, rounds);
@@ -246,6 +267,35 @@ static void long_series(void)
         }
 }
 
+/* ---- lines with about 63 segments, and about twice and three times as many: small samples, so that many a step closes a segment at the last minute */
+static void many_segments(void)
+{
+    static int32_t y[400];
+    for (int r = 0; r < (guard ? 4000 : 100); r++) {
+        size_t n = 60 + next() % 340;
+        uint64_t spread = 1 + next() % 40, lambda = next() % (1 + spread / 2);
+        for (size_t i = 0; i < n; i++)
+            y[i] = (int32_t)(next() % spread) + (int32_t)(next() % 3 * i); /* now and then a slope, which ends in steps 8 and 9 */
+        reference_line_long(y, n, lambda, &want);
+        compare_all(y, n, lambda, &want, 1);
+    }
+    /* rises alone, falls alone, and both in turn: as many segments as minutes */
+    for (size_t n = 60; n <= 200; n++)
+        for (int kind = 0; kind < 3; kind++) {
+            for (size_t i = 0; i < n; i++)
+                y[i] = kind == 0 ? (int32_t)(3 * i) : kind == 1 ? -(int32_t)(3 * i) : (int32_t)(i % 2 * 9);
+            for (uint64_t lambda = 0; lambda < 3; lambda++) {
+                reference_line_long(y, n, lambda, &want);
+                compare_all(y, n, lambda, &want, 1);
+            }
+        }
+    for (int step = 2; step <= 10; step++)
+        if (step != 5 && step != 6 && step != 7 && set[step] == 0)
+            fail("a step that set no segment");
+    if (guard && (paused[3] == 0 || paused[4] == 0 || paused[8] == 0 || paused[9] == 0))
+        fail("a step that ended no run of 63 segments");
+}
+
 /* ---- refusals of line and balances, and that they touch nothing */
 static void refuse(const int32_t *y, size_t n, uint64_t lambda, size_t lengths, size_t totals, i64 expected)
 {
@@ -330,6 +380,7 @@ int main(int argc, char **argv)
     unsigned long count = arguments(argc, argv, 200000);
     known();
     exhaustive();
+    many_segments();
     far_samples();
     refusals();
     check_refusals();

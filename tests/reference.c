@@ -215,6 +215,128 @@ void reference_line_long(const int32_t *y, size_t n, uint64_t lambda, Line *out)
         emit(out, h->x[f + 1] - h->x[f], h->z[f + 1] - h->z[f]);
 }
 
+/* ---- the ten steps as printed (Condat 2013, "1D TV Denoising Algorithm"): a label for each step, its words beside it. The fractions are in lowest terms,
+ * and their denominators at most 65,536 but for a quotient of step 6 or 10, so that every product fits */
+typedef struct {
+    wide num, den;
+} Fraction;
+
+static Fraction fraction(wide num, wide den)
+{
+    wide a = num < 0 ? -num : num, b = den;
+    while (b != 0) {
+        wide c = a % b;
+        a = b;
+        b = c;
+    }
+    return (Fraction){num / a, den / a};
+}
+
+static Fraction whole(wide x)
+{
+    return (Fraction){x, 1};
+}
+
+static Fraction plus(Fraction p, Fraction q)
+{
+    return fraction(p.num * q.den + q.num * p.den, p.den * q.den);
+}
+
+static Fraction minus(Fraction p, Fraction q)
+{
+    return plus(p, (Fraction){-q.num, q.den});
+}
+
+static Fraction over(Fraction p, size_t n)
+{
+    return fraction(p.num, p.den * (wide)n);
+}
+
+static int less(Fraction p, Fraction q)
+{
+    return p.num * q.den < q.num * p.den;
+}
+
+/* x*[from] = ... = x*[to] <- level, at this step */
+static void set_level(Line *out, int *step, size_t from, size_t to, Fraction level, int at)
+{
+    out->length[out->n] = (uint32_t)(to - from + 1);
+    out->total[out->n] = (i64)(level.num * (wide)(to - from + 1) / level.den);
+    step[out->n++] = at;
+}
+
+void reference_line_printed(const int32_t *samples, size_t N, uint64_t smoothing, Line *out, int *step)
+{
+    const int32_t *y = samples - 1;
+    const Fraction lambda = whole((wide)smoothing), minus_lambda = whole(-(wide)smoothing), zero = whole(0);
+    out->n = 0;
+    /* 1 */
+    size_t k = 1, k0 = 1, k_minus = 1, k_plus = 1;
+    Fraction v_min = minus(whole(y[1]), lambda), v_max = plus(whole(y[1]), lambda), u_min = lambda, u_max = minus_lambda;
+step_2:
+    if (k == N) {
+        set_level(out, step, N, N, plus(v_min, u_min), 2);
+        return;
+    }
+step_3:
+    if (less(plus(whole(y[k + 1]), u_min), minus(v_min, lambda))) {
+        set_level(out, step, k0, k_minus, v_min, 3);
+        k = k0 = k_plus = k_minus = k_minus + 1;
+        v_min = whole(y[k]);
+        v_max = plus(whole(y[k]), plus(lambda, lambda));
+        u_min = lambda;
+        u_max = minus_lambda;
+    /* 4 */
+    } else if (less(plus(v_max, lambda), plus(whole(y[k + 1]), u_max))) {
+        set_level(out, step, k0, k_plus, v_max, 4);
+        k = k0 = k_minus = k_plus = k_plus + 1;
+        v_min = minus(whole(y[k]), plus(lambda, lambda));
+        v_max = whole(y[k]);
+        u_min = lambda;
+        u_max = minus_lambda;
+    /* 5 */
+    } else {
+        k = k + 1;
+        u_min = minus(plus(u_min, whole(y[k])), v_min);
+        u_max = minus(plus(u_max, whole(y[k])), v_max);
+    }
+    /* 6 */
+    if (!less(u_min, lambda)) {
+        v_min = plus(v_min, over(minus(u_min, lambda), k - k0 + 1));
+        u_min = lambda;
+        k_minus = k;
+    }
+    if (!less(minus_lambda, u_max)) {
+        v_max = plus(v_max, over(plus(u_max, lambda), k - k0 + 1));
+        u_max = minus_lambda;
+        k_plus = k;
+    }
+    /* 7 */
+    if (k < N)
+        goto step_3;
+    /* 8 */
+    if (less(u_min, zero)) {
+        set_level(out, step, k0, k_minus, v_min, 8);
+        k = k0 = k_minus = k_minus + 1;
+        v_min = whole(y[k]);
+        u_min = lambda;
+        u_max = minus(plus(whole(y[k]), lambda), v_max);
+        goto step_2;
+    }
+    /* 9 */
+    if (less(zero, u_max)) {
+        set_level(out, step, k0, k_plus, v_max, 9);
+        k = k0 = k_plus = k_plus + 1;
+        v_max = whole(y[k]);
+        u_max = minus_lambda;
+        u_min = minus(minus(whole(y[k]), lambda), v_min);
+        goto step_2;
+    }
+    /* 10 */
+    set_level(out, step, k0, N, plus(v_min, over(u_min, k - k0 + 1)), 10);
+}
+
+
 const Known known_lines[KNOWN] = {
     {1, {7}, 0, 1, {1}, {7}},
     {1, {7}, (uint64_t)1 << 40, 1, {1}, {7}},

@@ -40,6 +40,9 @@ int reference_line_short(const int32_t *y, size_t n, uint64_t lambda, Line *out)
 /* the line of any series, by a taut string, in linear time */
 void reference_line_long(const int32_t *y, size_t n, uint64_t lambda, Line *out);
 
+/* the line of any series, by the ten steps as Condat 2013 prints them, in exact fractions; and the number of the step that set each segment */
+void reference_line_printed(const int32_t *y, size_t n, uint64_t lambda, Line *out, int *step);
+
 /* the known lines of RULES 2.6 */
 enum { KNOWN = 13 };
 typedef struct {

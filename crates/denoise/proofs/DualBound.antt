@@ -16,8 +16,8 @@ use Rattle.optimality.specs.Tube.{Side, floor, roof, prefix, R, edge, edge-is}
 use Rattle.optimality.specs.TubePath.{Path, Turns}
 use Rattle.optimality.specs.MachineLaws.{line-path}
 use Rattle.optimality.specs.Series.{Limited}
-use Rattle.denoise.specs.Run.{dataOf}
-use Rattle.denoise.proofs.RunBounds.{right}
+use Rattle.denoise.specs.Variables.{dataOf}
+use Rattle.denoise.proofs.VariableLaws.{valid}
 
 -- from the dual u on, along the minutes ys
 unfoldable pub StartsWithin : ℕ → ℤ → List ℤ → List Segment → Type 0
@@ -72,4 +72,4 @@ module _ (ys : List ℤ) (smoothing : ℕ) where
 
   pub line-starts-within : Limited ys smoothing → StartsWithin smoothing (pos 0) ys (plain-line (pos smoothing) ys)
   unfolding prefix
-  line-starts-within W = starts-within 0 (pos 0) (plain-line (pos smoothing) ys) (line-path d (right ys smoothing W)) (first-ready (plain-line (pos smoothing) ys))
+  line-starts-within W = starts-within 0 (pos 0) (plain-line (pos smoothing) ys) (line-path d (valid ys smoothing W)) (first-ready (plain-line (pos smoothing) ys))

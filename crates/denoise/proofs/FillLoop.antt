@@ -15,7 +15,7 @@ use Rattle.optimality.specs.SmallNumbers.{SmallBound}
 use Rattle.optimality.specs.Series.{plain, plain-minute}
 use Rattle.optimality.specs.Segments.{then-v}
 use Rattle.denoise.specs.Dual.{duals-inside}
-use Rattle.denoise.specs.Run.{as-segment}
+use Rattle.denoise.specs.Walk.{as-segment}
 use Rattle.denoise.specs.Trace.{SmallDual, nextOf}
 use Rattle.denoise.specs.declared.steps.Span.{Span}
 use Rattle.denoise.specs.declared.tracing.Dual.{Dual}

@@ -1,8 +1,11 @@
 -- What the functions of `denoise` are proved by, and the laws of its definitions.
-pub mod RunBounds
-pub mod RunSteps
-pub mod DrawLoop
+pub mod VariableLaws
+pub mod Signs
+pub mod WalkSteps
+pub mod WalkLoop
+pub mod StoreLaws
 pub mod FillLoop
+pub mod FillAllLoop
 pub mod DualBound
 pub mod TraceLoop
 pub mod LineLaws

@@ -13,6 +13,8 @@ use Rattle.optimality.specs.Series.{plain, Limited}
 use Rattle.optimality.specs.Segments.{Segment, IsLine}
 use Rattle.optimality.specs.PlainSeries.{segments, line-lengths, line-totals, formed-lists, unique-lists}
 use Rattle.optimality.specs.Machine.{plain-line}
+use Rattle.optimality.specs.TenSteps.{solution}
+use Rattle.optimality.specs.TenStepsLine.{Writes}
 use Rattle.optimality.specs.Theorems as Theorems
 use Rattle.level.specs.Answer.{Answer, refused, given, when-given}
 use Rattle.series.specs.Answer.{refill}
@@ -49,10 +51,15 @@ module _ (ys : List ℤ) (L : ℕ) (ns : List ℕ) (ts : List ℤ) (m : ℕ) (e 
   abbrev ss : List Segment
   ss = segments (take m (lengthsOf ys L ns ts)) (take m (totalsOf ys L ns ts))
 
+  held : l ≡ ss
+  held = formed-lists ys l (Theorems.meets (pos L) ys (lists .0 .some) (0⩽pos L) .formed) ∙ sym (ap₂ segments (lengths-are .0) (totals-are .0))
+
   pub line-is : IsLine (pos L) (pos 0) (pos 0) (plain ys) ss
-  line-is =
-      let i = Theorems.meets (pos L) ys (lists .0 .some) (0⩽pos L) in
-      subst (λ s. IsLine (pos L) (pos 0) (pos 0) (plain ys) s) (formed-lists ys l (i .formed) ∙ sym (ap₂ segments (lengths-are .0) (totals-are .0))) i
+  line-is = subst (λ s. IsLine (pos L) (pos 0) (pos 0) (plain ys) s) held (Theorems.meets (pos L) ys (lists .0 .some) (0⩽pos L))
+
+  -- Condat's ten steps as printed write it
+  pub printed : Writes 0 (solution (pos L) ys) ss
+  printed = subst (Writes 0 (solution (pos L) ys)) held (Theorems.printed (pos L) ys (lists .0 .some) (0⩽pos L))
 
   pub meets : Meets ys L ss
   meets = line-meets ys L ss line-is

@@ -1,130 +1,230 @@
 -- What the loop of `tracing::trace` keeps: the segments that are left, filled in from here on, give the dual of the whole line.
-use mathlib.Core.Path.{_≡_, refl, sym, _∙_, ap, subst}
-use mathlib.Core.List.{List, [], _∷_, _++_}
+-- They can be filled in, as all of the line can: its lengths add up, its totals are in the samples' range, and each segment begins at a touch.
+use mathlib.Core.Path.{_≡_, refl, sym, _∙_, ap, ap₂, subst}
+use mathlib.Core.List.{List, [], _∷_}
 use native.Mathlib.Omega.{arith}
-use Prim.Native.Nat.{ℕ, suc, _+_, _<_, _≤_}
-use lib.ListN.{length, take, drop, set, length-append, length-take, length-drop}
-use lib.Seq.{sets, length-sets, drop-drop, length-take-le}
-use lib.IntN.{ℤ, pos, natAbs, _+ℤ_, _-ℤ_}
-use Rattle.integers.specs.Order.{_⋖_}
-use Rattle.integers.specs.Sums.{sumZ}
-use Rattle.optimality.specs.Segments.{Segment, by-divisor, then-v}
-use Rattle.optimality.specs.SmallNumbers.{SmallBound, sample-small}
-use Rattle.optimality.specs.Series.{Minute, plain, weighted, Limited}
-use Rattle.optimality.specs.PlainSeries.{length-plain, plain-weighted, take-plain, drop-plain}
-use Rattle.optimality.specs.Machine.{begin, plain-line}
+use Prim.Native.Nat.{ℕ, zero, suc, _+_, _-_, _<_, _≤_}
+use lib.ListN.{length, take, drop, length-drop, length-map}
+use lib.Seq.{sets, length-sets, length-take-le, drop-drop, take-all}
+use lib.IntN.{ℤ, pos}
+use Rattle.integers.specs.Order.{0⩽pos}
+use Rattle.integers.specs.Linear.{int}
+use Rattle.optimality.specs.Segments.{Segment, total-length, Proper}
+use Rattle.optimality.specs.SmallNumbers.{sample-small}
+use Rattle.optimality.specs.Series.{plain, Limited}
+use Rattle.optimality.specs.PlainSeries.{length-plain, segments, line-lengths, line-totals, formed-lists}
+use Rattle.optimality.specs.SampleRange.{Within}
+use Rattle.optimality.specs.Machine.{Increments, State, Out, on, emit, stop, follow, step, run, plain-line}
+use Rattle.optimality.specs.MachineLaws.{Sound, After, left, lines, facts, step-after}
+use Rattle.optimality.specs.Theorems as Theorems
 use Rattle.series.specs.Answer.{refill}
-use Rattle.denoise.specs.Dual.{duals-inside, duals}
-use Rattle.denoise.specs.Run.{Good, Turns, Emits, Stops, dataOf, stateOf, as-segment, rest}
-use Rattle.denoise.specs.Trace.{Fills, filledOf, endOf, minutes}
-use Rattle.denoise.specs.declared.steps.Run.{Run}
-use Rattle.denoise.specs.declared.steps.Origin.{Origin}
-use Rattle.denoise.specs.declared.steps.Span.{Span}
-use Rattle.denoise.proofs.RunSteps.{Goes, begins}
 use Rattle.series.proofs.AnswerLaws.{sets-refill}
-use Rattle.denoise.proofs.DrawLoop.{whole}
+use Rattle.denoise.specs.Dual.{duals}
+use Rattle.denoise.specs.Variables.{dataOf, stateOf}
+use Rattle.denoise.specs.Walk.{Good, rest, Starts, Reached, Walks, Fits}
+use Rattle.denoise.specs.Trace.{filledOf, endOf, spanOf, FillsAll, endAll}
+use Rattle.denoise.specs.declared.steps.Variables.{Variables}
+use Rattle.denoise.specs.declared.tracing.Origin.{Origin}
+use Rattle.denoise.specs.declared.walk.Walked.{Walked}
+use Rattle.denoise.specs.declared.walk.Next.{Next}
+use Rattle.denoise.specs.declared.walk.Next.the-variants as Next
+use Rattle.denoise.proofs.VariableLaws.{suc-before, valid}
+use Rattle.denoise.proofs.StoreLaws.{take-sets}
 use Rattle.denoise.proofs.DualBound.{StartsWithin, line-starts-within}
+use Rattle.denoise.proofs.FillAllLoop.{duals-short, filledAll, fill-first}
 
--- ---- lengths
-inside-long : (g : Segment) (v : ℤ) (ms : List Minute) → length (duals-inside g v ms) ≡ length ms
-unfolding duals-inside
-inside-long g v [] = refl
-inside-long g v (m ∷ ms) = ap suc (inside-long g (then-v g v m) ms)
+-- ---- segments that are as two lists tell them: each has its length for divisor
+abbrev AsLists : List Segment → Type 0
+AsLists l = l ≡ segments (line-lengths l) (line-totals l)
 
-duals-short : (u : ℤ) (ms : List Minute) (l : List Segment) → length (duals u ms l) ≤ length ms
-unfolding duals
-duals-short u ms [] = omega arith
-duals-short u ms (g ∷ l) =
-    let h = duals-short (u +ℤ weighted (take (g .len) ms) -ℤ g .total) (drop (g .len) ms) l in
-    simp (length-append, inside-long) (omega (arith, h, length-take (g .len) ms, length-drop (g .len) ms))
+as-lists-first : (g : Segment) (l : List Segment) → AsLists (g ∷ l) → (g .divisor ≡ g .len) × AsLists l
+unfolding segments
+as-lists-first g l e = (cc, cc)
 
--- a segment of a plain series
-duals-plain : (u : ℤ) (ys : List ℤ) (g : Segment) (l : List Segment) →
-    duals u (plain ys) (g ∷ l) ≡ duals-inside g (by-divisor g u) (plain (take (g .len) ys)) ++ duals (u +ℤ sumZ (take (g .len) ys) -ℤ g .total)
-    (plain (drop (g .len) ys)) l
-unfolding duals
-duals-plain u ys g l = rw (take-plain (g .len) ys, drop-plain (g .len) ys, plain-weighted (take (g .len) ys))
+as-lists-drop : (m : ℕ) (l : List Segment) → AsLists l → AsLists (drop m l)
+as-lists-drop zero l e = e
+as-lists-drop (suc m) [] e = e
+as-lists-drop (suc m) (g ∷ l) e = as-lists-drop m l (as-lists-first g l e .1)
 
--- stores in two runs
-sets-append : {A : Type 0} (xs : List A) (i : ℕ) (vs ws : List A) → sets xs i (vs ++ ws) ≡ sets (sets xs i vs) (i + length vs) ws
-sets-append xs i [] ws = let e : i + 0 ≡ i = omega arith in rw e
-sets-append xs i (v ∷ vs) ws = let e : i + suc (length vs) ≡ suc i + length vs = omega arith in sets-append (set xs i v) (suc i) vs ws ∙ rw e
+as-lists-take : (m : ℕ) (l : List Segment) → AsLists l → AsLists (take m l)
+unfolding segments
+as-lists-take zero l e = refl
+as-lists-take (suc m) [] e = refl
+as-lists-take (suc m) (g ∷ l) e = let a = as-lists-first g l e in let i = as-lists-take m l (a .1) in cc
 
-module _ (ys : List ℤ) (smoothing : ℕ) (out₀ : List ℤ) where
+-- m of them, where they were written to two lists
+written : (m : ℕ) (ns : List ℕ) (ts : List ℤ) (l : List Segment) → m ≤ length ns → m ≤ length ts → length l ≡ m → AsLists l →
+    segments (take m (sets ns 0 (line-lengths l))) (take m (sets ts 0 (line-totals l))) ≡ l
+written m ns ts l h k r e =
+    ap₂ segments (take-sets m ns (line-lengths l) h (length-map l (λ s. s .len) ∙ r)) (take-sets m ts (line-totals l) k (length-map l (λ s. s .total) ∙ r)) ∙ sym e
+
+-- ---- fills in two runs
+module _ (ys : List ℤ) where
+  fills-take : (m : ℕ) (o : Origin) (l : List Segment) → FillsAll ys o l → FillsAll ys o (take m l)
+  unfolding FillsAll
+  fills-take zero o l F = tt
+  fills-take (suc m) o [] F = tt
+  fills-take (suc m) o (g ∷ l) F = (F .0, fills-take m (endOf ys o (spanOf g)) l (F .1))
+
+  fills-drop : (m : ℕ) (o : Origin) (l : List Segment) → FillsAll ys o l → FillsAll ys (endAll ys o (take m l)) (drop m l)
+  unfolding FillsAll endAll
+  fills-drop zero o l F = F
+  fills-drop (suc m) o [] F = tt
+  fills-drop (suc m) o (g ∷ l) F = fills-drop m (endOf ys o (spanOf g)) l (F .1)
+
+  filled-parts : (m : ℕ) (out : List ℤ) (o : Origin) (l : List Segment) → FillsAll ys o l →
+      filledAll ys out o l ≡ filledAll ys (filledAll ys out o (take m l)) (endAll ys o (take m l)) (drop m l)
+  unfolding FillsAll endAll duals
+  filled-parts zero out o l F = refl
+  filled-parts (suc m) out o [] F = refl
+  filled-parts (suc m) out o (g ∷ l) F =
+      let out′ = sets out (o .i) (filledOf ys o (spanOf g)) in
+      let o′ = endOf ys o (spanOf g) in
+      fill-first ys out o g l (F .0)
+      ∙ filled-parts m out′ o′ l (F .1)
+      ∙ ap (λ x. filledAll ys x (endAll ys o′ (take m l)) (drop m l)) (sym (fill-first ys out o g (take m l) (F .0)))
+
+module _ (ys : List ℤ) (smoothing : ℕ) where
+  abbrev d : Increments
+  d = dataOf ys smoothing
+
   abbrev line : List Segment
   line = plain-line (pos smoothing) ys
 
-  pub record Traced (out : List ℤ) (m : Origin) (r : Run) : Type 0 where
-    pub good : Good ys smoothing r
-    pub at : m .i ≡ r .i
-    pub short : r .i < length ys
-    pub long : length out ≡ length out₀
-    pub starts-within : StartsWithin smoothing (m .u) (drop (m .i) ys) (rest ys smoothing r)
-    pub left : sets out (m .i) (duals (m .u) (plain (drop (m .i) ys)) (rest ys smoothing r)) ≡ sets out₀ 0 (duals (pos 0) (plain ys) line)
+  abbrev first : Origin
+  first = record { i = 0; u = pos 0 }
 
-  pub traced-first : Limited ys smoothing → (r : Run) → stateOf r ≡ begin (dataOf ys smoothing) 0 (pos 0) → Traced out₀ (record { i = 0; u = pos 0 }) r
-  traced-first W r e =
-      let i : r .i ≡ 0 = ap (λ s. s .i) e in
-      let w = whole ys smoothing W r e in
-      record { good = begins ys smoothing W r 0 (pos 0) (W .some) (omega arith) e; at = sym i; short = omega (arith, W .some); long = refl; starts-within = rw w (line-starts-within ys smoothing W); left = rw w }
+  module _ (W : Limited ys smoothing) where
+    -- ---- the line can be filled in
+    fills-all : (o : Origin) (l : List Segment) → o .i + total-length l ≤ length ys → StartsWithin smoothing (o .u) (drop (o .i) ys) l → Proper l →
+        Within 16777216 l → AsLists l → FillsAll ys o l
+    unfolding FillsAll total-length StartsWithin Proper Within
+    fills-all o [] h s r t e = tt
+    fills-all o (g ∷ l) h s r t e =
+        let a = as-lists-first g l e in (
+          record {
+            minutes = W .few;
+            samples = sample-small 16777216 ys (W .samples);
+            upto = omega arith;
+            dual = record { upto = omega (arith, s .0, W .smooth) };
+            above = omega (int, a .0, r .0);
+            small = record { total = record { upto = omega (arith, t .0, a .0, W .few) }; divisor = record { upto = omega (arith, a .0, W .few) } };
+          },
+          fills-all (endOf ys o (spanOf g)) l (omega arith) (rw drop-drop at (s .1)) (r .2) (t .1) (a .1),
+        )
 
-  -- a minute more
-  pub traced-on : {out : List ℤ} {m : Origin} {r : Run} → Traced out m r → (W : Limited ys smoothing) (q : Run) → Goes ys smoothing W r q → Traced out m q
-  traced-on K W q G = record { good = G .good; at = K .at ∙ sym (G .same); short = rw (G .same) (K .short); long = K .long; starts-within = rw (G .rest) (K .starts-within); left = rw (G .rest) (K .left) }
+    -- ---- something is left of it wherever the machine stands
+    follow-some : (s : State) (f : State → List Segment) → ((s′ : State) → Sound d s′ → left d s′ < left d s → 0 < length (f s′)) → (o : Out) →
+        After d s o → 0 < length (follow f o)
+    follow-some s f h (on s′) A = h s′ (A .sound) (A .less)
+    follow-some s f h (emit g s′) A = omega arith
+    follow-some s f h (stop g) A = omega arith
 
-  module _ (W : Limited ys smoothing) {out : List ℤ} {m : Origin} {r : Run} (K : Traced out m r) (p : Span) where
-    filled-long : m .i + p .len ≤ length ys → length (filledOf ys m p) ≡ p .len
-    filled-long h = inside-long (as-segment p) (by-divisor (as-segment p) (m .u)) (plain (minutes ys m p)) ∙ length-plain (minutes ys m p) ∙ length-take-le (p .len) (drop (m .i) ys) (simp length-drop (omega arith))
+    run-some : (f : ℕ) (s : State) → Sound d s → left d s < f → 0 < length (run d f s)
+    unfolding run
+    run-some zero s S h = absurd (omega arith)
+    run-some (suc f) s S h = follow-some s (λ s′. run d f s′) (λ s′ S′ l. run-some f s′ S′ (omega arith)) (step d s) (step-after d (valid ys smoothing W) S)
 
-    -- what the dual is before p, and after it
-    module _ {l : List Segment} (e : rest ys smoothing r ≡ as-segment p ∷ l) where
-      before : natAbs (m .u) ≤ smoothing
-      unfolding StartsWithin
-      before = subst (StartsWithin smoothing (m .u) (drop (m .i) ys)) e (K .starts-within) .0
+    module _ {r : Variables} (G : Good ys smoothing r) where
+      rest-some : 0 < length (rest ys smoothing r)
+      unfolding lines
+      rest-some = run-some (suc (left d (stateOf r))) (stateOf r) (G .sound) (omega arith)
 
-      after : StartsWithin smoothing (endOf ys m p .u) (drop (m .i + p .len) ys) l
-      unfolding StartsWithin
-      after = rw drop-drop at (subst (StartsWithin smoothing (m .u) (drop (m .i) ys)) e (K .starts-within) .1)
+      -- and it stands at a minute of the series
+      stands-within : r .k0 ≤ length ys
+      stands-within = let F = facts d (valid ys smoothing W) (G .sound) in omega (arith, F .from, F .upto, suc-before (r .k0) (G .first))
 
-      -- the rest is filled in after it
-      opened : m .i + p .len ≤ length ys →
-          sets out (m .i) (duals (m .u) (plain (drop (m .i) ys)) (rest ys smoothing r)) ≡ sets (sets out (m .i) (filledOf ys m p)) (m .i + p .len)
-          (duals (endOf ys m p .u) (plain (drop (m .i + p .len) ys)) l)
-      opened h =
-          ap (sets out (m .i)) (ap (duals (m .u) (plain (drop (m .i) ys))) e ∙ duals-plain (m .u) (drop (m .i) ys) (as-segment p) l)
-          ∙ sets-append out (m .i) (filledOf ys m p) _
-          ∙ rw (filled-long h, drop-drop)
+  -- ---- what the loop keeps
+  module _ (out₀ : List ℤ) where
+    pub record Tracing (ns : List ℕ) (ts : List ℤ) (out : List ℤ) (r : Variables) (o : Origin) : Type 0 where
+      pub lengths : length ns ≡ 64
+      pub totals : length ts ≡ 64
+      pub starts : Starts ys smoothing r
+      pub long : length out ≡ length out₀
+      pub as-lists : AsLists (rest ys smoothing r)
+      pub fillable : FillsAll ys o (rest ys smoothing r)
+      pub fills : filledAll ys out o (rest ys smoothing r) ≡ filledAll ys out₀ first line
 
-    -- p may be filled in
-    fills : {l : List Segment} → rest ys smoothing r ≡ as-segment p ∷ l → m .i + p .len ≤ length ys → pos 0 ⋖ p .n → SmallBound (p .total) (p .n) → Fills ys m p
-    fills e h a b = record { minutes = W .few; samples = sample-small 16777216 ys (W .samples); upto = h; dual = record { upto = omega (arith, before e, W .smooth) }; above = a; small = b }
+    module _ (W : Limited ys smoothing) where
+      pub tracing-first : (ns : List ℕ) (ts : List ℤ) → length ns ≡ 64 → length ts ≡ 64 → (r : Variables) → Starts ys smoothing r →
+          rest ys smoothing r ≡ line → Tracing ns ts out₀ r first
+      tracing-first ns ts h k r S e =
+          let F = Theorems.meets (pos smoothing) ys (W .some) (0⩽pos smoothing) .formed in
+          let l = formed-lists ys line F in
+          let t = Theorems.in-samples-range (pos smoothing) ys (W .some) (0⩽pos smoothing) 16777216 (W .samples) in
+          record {
+            lengths = h;
+            totals = k;
+            starts = S;
+            long = refl;
+            as-lists = rw e l;
+            fillable = rw e (fills-all W first line (omega (arith, F .long, length-plain ys)) (line-starts-within ys smoothing W) (F .proper) t l);
+            fills = rw e;
+          }
 
-    pub turn-fills : {k : Origin} → Turns ys smoothing r p k → Fills ys m p
-    turn-fills T = fills (T .rest) (omega (arith, K .at, T .long, T .further, T .short)) (T .above) (T .small)
+      module _ {ns : List ℕ} {ts : List ℤ} {out : List ℤ} {r : Variables} {o : Origin} (K : Tracing ns ts out r o) where
+        abbrev l : List Segment
+        l = rest ys smoothing r
 
-    -- a segment more
-    module _ {q : Run} (E : Emits ys smoothing r p q) where
-      room : m .i + p .len ≡ q .i
-      room = omega (arith, K .at, E .long, E .further)
+        pub fits : Fits ys ns ts
+        fits = record { one = omega (arith, K .lengths); two = λ _. omega (arith, K .lengths); both = λ m h k. omega (arith, K .lengths, K .totals) }
 
-      pub emit-fills : Fills ys m p
-      emit-fills = fills (E .rest) (omega (arith, room, E .short)) (E .above) (E .small)
+        -- so many had room, and so many were left
+        count : (m : ℕ) (n : Next) → Reached ys smoothing r (length ns) m n → (m ≤ length ns) × (m ≤ length l)
+        count m Next.Done H = (H .0, omega (arith, H .1))
+        count m (Next.At q) H = (omega (arith, H .0), omega (arith, length-drop m l, ap length (H .4), rest-some W (H .1)))
 
-      pub traced-turn : Traced (sets out (m .i) (filledOf ys m p)) (endOf ys m p) q
-      traced-turn = record {
-        good = E .good;
-        at = room;
-        short = E .short;
-        long = length-sets out (m .i) (filledOf ys m p) ∙ K .long;
-        starts-within = after (E .rest);
-        left = sym (opened (E .rest) (omega (arith, room, E .short))) ∙ K .left;
-      }
+        -- a walk over the two lists, which then hold the segments that it gave
+        module _ (w : Walked) {ns′ : List ℕ} {ts′ : List ℤ}
+            (H : Walks ys smoothing r (length ns) w × ((ns′ ≡ sets ns 0 (line-lengths (take (w .segments) l)))
+            × (ts′ ≡ sets ts 0 (line-totals (take (w .segments) l))))) where
+          abbrev m : ℕ
+          m = w .segments
 
-    -- the last one
-    module _ (S : Stops ys smoothing r p) where
-      pub stop-fills : Fills ys m p
-      stop-fills = fills (S .rest) (omega (arith, K .at, S .long, S .short)) (S .above) (S .small)
+          abbrev given : List Segment
+          given = segments (take m ns′) (take m ts′)
 
-      pub traced-end : length ys ≤ length out₀ → sets out (m .i) (filledOf ys m p) ≡ refill (duals (pos 0) (plain ys) line) out₀
-      unfolding duals
-      traced-end h = sym (opened (S .rest) (stop-fills .upto)) ∙ K .left ∙ sets-refill (duals (pos 0) (plain ys) line) out₀ (omega (arith, duals-short (pos 0) (plain ys) line, length-plain ys))
+          long-lengths : length ns′ ≡ length ns
+          long-lengths = ap length (H .1 .0) ∙ length-sets ns 0 (line-lengths (take m l))
+
+          long-totals : length ts′ ≡ length ts
+          long-totals = ap length (H .1 .1) ∙ length-sets ts 0 (line-totals (take m l))
+
+          pub room : (m ≤ length ns′) × (m ≤ length ts′)
+          room = let c = count m (w .next) (H .0) in (omega (arith, long-lengths), omega (arith, long-totals, K .lengths, K .totals))
+
+          given-is : given ≡ take m l
+          given-is =
+              let c = count m (w .next) (H .0) in
+              ap₂ (λ ns ts. segments (take m ns) (take m ts)) (H .1 .0) (H .1 .1)
+              ∙ written m ns ts (take m l) (c .0) (omega (arith, K .lengths, K .totals)) (length-take-le m l (c .1)) (as-lists-take m l (K .as-lists))
+
+          pub given-fills : FillsAll ys o given
+          given-fills = rw given-is (fills-take ys m o l (K .fillable))
+
+          -- more comes from q on
+          module _ (q : Variables) (e : w .next ≡ Next.At q) where
+            at : Reached ys smoothing r (length ns) m (Next.At q)
+            at = subst (Reached ys smoothing r (length ns) m) e (H .0)
+
+            pub tracing-less : length ys - q .k0 < length ys - r .k0
+            tracing-less = omega (arith, at .0, at .3, K .lengths, stands-within W (at .1))
+
+            pub tracing-turn : Tracing ns′ ts′ (filledAll ys out o given) q (endAll ys o given)
+            tracing-turn = rw given-is record {
+              lengths = long-lengths ∙ K .lengths;
+              totals = long-totals ∙ K .totals;
+              starts = record { good = at .1; one = λ k. absurd (omega (arith, at .2)) };
+              long = simp length-sets (K .long);
+              as-lists = rw (at .4) (as-lists-drop m l (K .as-lists));
+              fillable = rw (at .4) (fills-drop ys m o l (K .fillable));
+              fills = rw (at .4) (sym (filled-parts ys m out o l (K .fillable)) ∙ K .fills);
+            }
+
+          -- that was all
+          pub traced : w .next ≡ Next.Done → length ys ≤ length out₀ → filledAll ys out o given ≡ refill (duals (pos 0) (plain ys) line) out₀
+          traced e h =
+              let all = subst (Reached ys smoothing r (length ns) m) e (H .0) in
+              ap (filledAll ys out o) (given-is ∙ take-all m l (omega (arith, all .1)))
+              ∙ K .fills
+              ∙ sets-refill (duals (pos 0) (plain ys) line) out₀ (omega (arith, duals-short (pos 0) (plain ys) line, length-plain ys))

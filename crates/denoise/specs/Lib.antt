@@ -2,5 +2,6 @@
 pub mod Line
 pub mod Dual
 -- What its inner functions keep and give.
-pub mod Run
+pub mod Variables
+pub mod Walk
 pub mod Trace

@@ -1,5 +1,5 @@
--- The dual along a segment, as the code fills it in.
-use mathlib.Core.List.{List}
+-- The dual along a segment, and along segments in a row, as the code fills it in.
+use mathlib.Core.List.{List, [], _∷_}
 use Prim.Native.Nat.{ℕ, suc, _+_, _<_, _≤_}
 use lib.ListN.{length, getD, take, drop}
 use lib.IntN.{ℤ, pos, _+ℤ_, _*ℤ_, _-ℤ_}
@@ -8,10 +8,10 @@ use Rattle.integers.specs.Sums.{sumZ}
 use Rattle.integers.specs.Bounds.{Upto}
 use Rattle.optimality.specs.SmallNumbers.{SmallBound}
 use Rattle.optimality.specs.Series.{plain}
-use Rattle.optimality.specs.Segments.{by-divisor}
+use Rattle.optimality.specs.Segments.{Segment, by-divisor}
 use Rattle.denoise.specs.Dual.{duals-inside}
-use Rattle.denoise.specs.Run.{as-segment}
-use Rattle.denoise.specs.declared.steps.Origin.{Origin}
+use Rattle.denoise.specs.Walk.{as-segment}
+use Rattle.denoise.specs.declared.tracing.Origin.{Origin}
 use Rattle.denoise.specs.declared.steps.Span.{Span}
 use Rattle.denoise.specs.declared.tracing.Dual.{Dual}
 
@@ -42,3 +42,21 @@ module _ (ys : List ℤ) (m : Origin) (p : Span) where
 
   abbrev pub endOf : Origin
   endOf = record { i = m .i + p .len; u = m .u +ℤ sumZ minutes -ℤ p .total }
+
+-- ---- segments in a row
+abbrev pub spanOf : Segment → Span
+spanOf g = record { len = g .len; n = pos (g .divisor); total = g .total }
+
+-- segment j of two lists, whose divisor is its length
+abbrev pub spanAt : List ℕ → List ℤ → ℕ → Span
+spanAt lengths totals j = record { len = getD lengths j 0; n = pos (getD lengths j 0); total = getD totals j (pos 0) }
+
+-- each may begin where the one before it ends, the first one at m
+unfoldable pub FillsAll : List ℤ → Origin → List Segment → Type 0
+FillsAll ys m [] = Unit {0}
+FillsAll ys m (g ∷ l) = Fills ys m (spanOf g) × FillsAll ys (endOf ys m (spanOf g)) l
+
+-- where the last one ends
+unfoldable pub endAll : List ℤ → Origin → List Segment → Origin
+endAll ys m [] = m
+endAll ys m (g ∷ l) = endAll ys (endOf ys m (spanOf g)) l

@@ -11,9 +11,9 @@ ghost use Rattle.denoise.specs.Dual.{balancesOf, balancesAfter};
 use series::Checked;
 use series::Filled;
 
-mod drawing;
 mod steps;
 mod tracing;
+mod walk;
 
 pub enum Drawn {
     Segments(u32),
@@ -43,7 +43,7 @@ pub fn line(samples: &[i32], smoothing: u64, lengths: &mut [u32], totals: &mut [
     if totals.len() < samples.len() {
         return Drawn::Refused(5, 0);
     }
-    Drawn::Segments(drawing::draw(samples, smoothing, lengths, totals))
+    Drawn::Segments(walk::draw(samples, smoothing, lengths, totals))
 }
 
 // The dual of a series (the balances of RULES 2.4), minute by minute: each times the length of the segment that holds its minute.

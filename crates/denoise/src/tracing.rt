@@ -1,21 +1,28 @@
-// The dual along a line, written minute by minute. The steps are those of Condat 2013.
+// The dual along a line, written minute by minute. The segments come from the walk of the ten steps, 63 at a time.
 
 ghost use mathlib.Core.Path.{_≡_};
 ghost use Prim.Native.Nat.{_≤_, _<_};
-ghost use lib.ListN.{length, getD};
+ghost use lib.ListN.{length, getD, take, drop};
 ghost use lib.Seq.{sets};
 ghost use lib.IntN.{pos};
 ghost use Rattle.integers.specs.Bounds.{Upto};
 ghost use Rattle.optimality.specs.SmallNumbers.{SmallBound};
 ghost use Rattle.optimality.specs.Machine.{plain-line};
+ghost use Rattle.optimality.specs.PlainSeries.{segments};
 ghost use Rattle.series.specs.Answer.{refill};
 ghost use Rattle.denoise.specs.Dual.{duals};
 ghost use Rattle.optimality.specs.Series.{plain, Limited};
-ghost use Rattle.denoise.specs.Trace.{SmallDual, Fills, nextOf, filledOf, endOf};
+ghost use Rattle.denoise.specs.Trace.{SmallDual, Fills, nextOf, filledOf, endOf, spanAt, FillsAll, endAll};
 use super::steps;
-use super::steps::Next;
-use super::steps::Origin;
 use super::steps::Span;
+use super::walk;
+use super::walk::Next;
+
+// Where a segment begins: after minute i, with the dual u.
+pub struct Origin {
+    pub i: usize,
+    pub u: i64,
+}
 
 // Inside a segment: v is the dual after minute k times the segment's n, and u the dual at the segment's start plus its samples up to k.
 pub struct Dual {
@@ -31,40 +38,64 @@ pub(crate) fn trace(samples: &[i32], smoothing: u64, out: &mut [i64])
     ensures { λ _. ⌜ now (out .exit) ≡ refill (duals (pos 0) (plain (now (samples .entry))) (plain-line (pos smoothing) (now (samples .entry))))
         (now (out .entry)) ⌝ }
 {
-    let mut m = Origin { i: 0, u: 0 };
-    let mut r = steps::begin(samples, smoothing, m);
+    let mut lengths = [0u32; 64];
+    let mut totals = [0i64; 64];
+    // 1
+    let mut from = steps::step_1(samples, smoothing);
+    let mut o = Origin { i: 0, u: 0 };
     loop {
-        // steps 8 to 10
-        while r.at.k >= samples.len() {
-            // a copy, so that r stays in registers
-            let q = r;
-            match steps::finish(samples, smoothing, q) {
-                Next::Emit(p, next) => {
-                    m = fill(samples, m, p, out);
-                    r = next;
-                }
-                Next::Last(p) => {
-                    fill(samples, m, p, out);
-                    return;
-                }
+        let w = walk::walk(samples, smoothing, from, &mut lengths, &mut totals);
+        o = fill_all(samples, o, &lengths, &totals, w.segments, out);
+        let next = w.next;
+        match next {
+            Next::Done => {
+                return;
+            }
+            Next::At(r) => {
+                from = r;
             }
         }
-        // step 3
-        if steps::falls(samples, smoothing, r) {
-            let c = steps::fall(samples, smoothing, r);
-            m = fill(samples, m, c.span, out);
-            r = steps::begin(samples, smoothing, c.origin);
-            continue;
-        }
-        // step 4
-        if steps::rises(samples, smoothing, r) {
-            let c = steps::rise(samples, smoothing, r);
-            m = fill(samples, m, c.span, out);
-            r = steps::begin(samples, smoothing, c.origin);
-            continue;
-        }
-        // steps 5 to 7
-        r = steps::more(samples, smoothing, r);
+    }
+}
+
+// The dual along the first m segments of two lists, which begin at an origin; the origin where they end.
+fn fill_all(
+    samples: &[i32],
+    o: Origin,
+    lengths: &[u32],
+    totals: &[i64],
+    m: usize,
+    out: &mut [i64],
+) -> Origin
+    requires { ⌜ m ≤ length (now lengths) ⌝ }
+    requires { ⌜ m ≤ length (now totals) ⌝ }
+    requires { ⌜ FillsAll (now samples) o (segments (take m (now lengths)) (take m (now totals))) ⌝ }
+    requires { ⌜ length (now samples) ≤ length (now out) ⌝ }
+    ensures { λ r. ⌜ r ≡ endAll (now (samples .entry)) o (segments (take m (now (lengths .entry))) (take m (now (totals .entry)))) ⌝ }
+    ensures { λ r. ⌜ now (out .exit) ≡ sets (now (out .entry)) (o .i) (duals (o .u) (plain (drop (o .i) (now (samples .entry))))
+        (segments (take m (now (lengths .entry))) (take m (now (totals .entry))))) ⌝ }
+{
+    let mut q = o;
+    let mut j = 0;
+    while j < m {
+        q = fill(samples, q, segment_at(lengths, totals, j), out);
+        j += 1;
+    }
+    q
+}
+
+// Segment j of two lists.
+fn segment_at(lengths: &[u32], totals: &[i64], j: usize) -> Span
+    requires { ⌜ j < length (now lengths) ⌝ }
+    requires { ⌜ j < length (now totals) ⌝ }
+    ensures { λ p. ⌜ p ≡ spanAt (now (lengths .entry)) (now (totals .entry)) j ⌝ }
+{
+    let len = lengths[j];
+    let total = totals[j];
+    Span {
+        len: len as usize,
+        n: len as i64,
+        total,
     }
 }
 

@@ -13,7 +13,7 @@ use Rattle.integers.specs.Sums.{sumZ}
 use Rattle.integers.specs.Bounds.{cleaning, fit, clean, mul-both}
 use Rattle.optimality.specs.Series.{plain}
 use Rattle.denoise.specs.Dual.{duals-inside}
-use Rattle.denoise.specs.Run.{as-segment}
+use Rattle.denoise.specs.Walk.{as-segment}
 use Rattle.denoise.proofs.FillLoop.{Filling, filling-first, filling-turn, steady, sum-end, filled, above-abs}
 use Rattle.denoise.proofs.tracing.fill.Statement.{statement}
 use Rattle.denoise.proofs.tracing.fill.Tie as tie

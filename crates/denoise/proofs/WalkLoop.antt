@@ -1,0 +1,231 @@
+-- What the loops of `walk::walk` keep: the segments that are left, written from here on, give the lists that the whole walk gives.
+use mathlib.Core.Path.{_≡_, refl, sym, _∙_, ap, subst}
+use mathlib.Core.Logic.{⊎-elim}
+use mathlib.Core.List.{List, [], _∷_, map}
+use native.Mathlib.Omega.{arith}
+use native.Mathlib.Numerals.{add-one}
+use native.Mathlib.Nat.{zero-add, eq-or-lt-of-le}
+use Prim.Native.Nat.{ℕ, zero, suc, _+_, _<_, _≤_}
+use lib.ListN.{length, set, take, drop, length-drop}
+use lib.Seq.{sets, length-sets, drop-drop}
+use lib.IntN.{ℤ, pos}
+use Rattle.optimality.specs.Series.{Limited}
+use Rattle.optimality.specs.Segments.{Segment}
+use Rattle.optimality.specs.Machine.{Increments, State, Out, on, emit, stop, begin, step, plain-line}
+use Rattle.optimality.specs.MachineLaws.{left, lines, line-lines}
+use Rattle.optimality.specs.PlainSeries.{line-lengths, line-totals}
+use Rattle.optimality.specs.TenStepsLine.{calm8, calm9}
+use Rattle.denoise.specs.Variables.{dataOf, stateOf, variablesOf, cutOf}
+use Rattle.denoise.specs.Walk.{as-segment, doneOf, pausedOf, ScanIs, FinishIs, Good, rest, Starts, Reached, Walks, Fits}
+use Rattle.denoise.specs.declared.steps.Variables.{Variables}
+use Rattle.denoise.specs.declared.steps.Span.{Span}
+use Rattle.denoise.specs.declared.walk.Scanned.the-variants as Scanned
+use Rattle.denoise.specs.declared.walk.Finished.the-variants as Finished
+use Rattle.denoise.specs.declared.walk.Next.{Next}
+use Rattle.denoise.specs.declared.walk.Next.the-variants as Next
+use Rattle.denoise.specs.declared.walk.Walked.{Walked}
+use Rattle.denoise.proofs.VariableLaws.{suc-before, smooth, valid}
+use Rattle.denoise.proofs.WalkSteps.{known, after, small-after, told, step-10, cut-segment, begin-good}
+
+-- after the first m, one store more
+stored : {A : Type 0} (f : Segment → A) (m : ℕ) (l : List Segment) {g : Segment} {t : List Segment} (i : ℕ) (xs : List A) → drop m l ≡ g ∷ t →
+    set (sets xs i (map f (take m l))) (i + m) (f g) ≡ sets xs i (map f (take (suc m) l))
+stored f zero l {g} i xs e = let q : i + 0 ≡ i = omega arith in rw (e, q)
+stored f (suc m) [] i xs e = absurd (omega (arith, ap length e))
+stored f (suc m) (x ∷ l) {g} i xs e =
+    let q : i + suc m ≡ suc i + m = omega arith in
+    ap (λ k. set (sets (set xs i (f x)) (suc i) (map f (take m l))) k (f g)) q ∙ stored f m l (suc i) (set xs i (f x)) e
+
+module _ (ys : List ℤ) (smoothing : ℕ) where
+  abbrev d : Increments
+  d = dataOf ys smoothing
+
+  -- ---- a pass: one minute more, a segment more, or the last one
+  pub record Goes (r q : Variables) : Type 0 where
+    pub good : Good ys smoothing q
+    pub same : q .k0 ≡ r .k0
+    pub less : left d (stateOf q) < left d (stateOf r)
+    pub rest : rest ys smoothing q ≡ rest ys smoothing r
+
+  pub record Emits (r : Variables) (p : Span) (q : Variables) : Type 0 where
+    pub good : Good ys smoothing q
+    pub short : p .len ≤ length ys
+    pub further : r .k0 < q .k0
+    pub one : q .k ≡ q .k0
+    pub less : left d (stateOf q) < left d (stateOf r)
+    pub rest : rest ys smoothing r ≡ as-segment p ∷ rest ys smoothing q
+
+  pub record Stops (r : Variables) (p : Span) : Type 0 where
+    pub short : p .len ≤ length ys
+    pub rest : rest ys smoothing r ≡ as-segment p ∷ []
+
+  module _ (W : Limited ys smoothing) {r : Variables} (G : Good ys smoothing r) where
+    abbrev s : State
+    s = stateOf r
+
+    emits : (g : Segment) (t : State) (p : Span) (q : Variables) → step d s ≡ emit g t → (as-segment p ≡ g) × (q ≡ variablesOf t) × (q .k ≡ q .k0) → Emits r p q
+    emits g t p q e F =
+        let A = after ys smoothing W G (emit g t) e in
+        let f = F .0 in
+        subst (Emits r p) (sym (F .1))
+        (record {
+          good = record { first = omega arith; sound = A .sound; small = small-after ys smoothing W G (emit g t) e };
+          short = omega (arith, A .long, A .short, ap (λ g. g .len) f);
+          further = omega (arith, A .further, suc-before (r .k0) (G .first));
+          one = rw (F .1) at (F .2);
+          less = A .less;
+          rest = told ys smoothing W G (emit g t) e ∙ ap (λ g. g ∷ lines d t) (sym f);
+        })
+
+    stops : (g : Segment) (p : Span) → step d s ≡ stop g → as-segment p ≡ g → Stops r p
+    stops g p e f =
+        let A = after ys smoothing W G (stop g) e in
+        record { short = omega (arith, A, ap (λ g. g .len) f); rest = told ys smoothing W G (stop g) e ∙ ap (λ g. g ∷ []) (sym f) }
+
+    pub scanned-on : {q : Variables} → ScanIs (Scanned.On q) (step d s) → Goes r q
+    scanned-on {q} = go (step d s) refl
+      where
+        go : (o : Out) → step d s ≡ o → ScanIs (Scanned.On q) o → Goes r q
+        go (on t) e h =
+            let A = after ys smoothing W G (on t) e in
+            subst (Goes r) (sym h)
+            (record {
+              good = record { first = omega arith; sound = A .sound; small = small-after ys smoothing W G (on t) e };
+              same = ap suc (A .same) ∙ suc-before (r .k0) (G .first);
+              less = A .less;
+              rest = sym (told ys smoothing W G (on t) e);
+            })
+        go (emit g t) e h = absurd h
+        go (stop g) e h = absurd h
+
+    pub scanned-set : {p : Span} {q : Variables} → ScanIs (Scanned.Set p q) (step d s) → Emits r p q
+    scanned-set {p} {q} = go (step d s) refl
+      where
+        go : (o : Out) → step d s ≡ o → ScanIs (Scanned.Set p q) o → Emits r p q
+        go (on t) e h = absurd h
+        go (emit g t) e h = emits g t p q e h
+        go (stop g) e h = absurd h
+
+    pub finished-set : {p : Span} {q : Variables} → FinishIs (Finished.Set p q) (step d s) → Emits r p q
+    finished-set {p} {q} = go (step d s) refl
+      where
+        go : (o : Out) → step d s ≡ o → FinishIs (Finished.Set p q) o → Emits r p q
+        go (on t) e h = absurd h
+        go (emit g t) e h = emits g t p q e h
+        go (stop g) e h = absurd h
+
+    pub finished-end : {p : Span} → FinishIs (Finished.End p) (step d s) → Stops r p
+    finished-end {p} = go (step d s) refl
+      where
+        go : (o : Out) → step d s ≡ o → FinishIs (Finished.End p) o → Stops r p
+        go (on t) e h = absurd h
+        go (emit g t) e h = absurd h
+        go (stop g) e h = stops g p e h
+
+    pub below : (r .k ≡ length ys → ⊥) → r .k < length ys
+    below f = ⊎-elim (λ e. absurd (f e)) (λ l. l) (eq-or-lt-of-le (known ys smoothing W G .upto))
+
+    -- a segment of one minute at the end is the last
+    pub no-more : r .k ≡ length ys → r .k ≡ r .k0 → {p : Span} {q : Variables} → Emits r p q → ⊥
+    no-more h o E = omega (arith, E .further, suc-before _ (E .good .first), known ys smoothing W (E .good) .from, known ys smoothing W (E .good) .upto)
+
+    -- step 2: a segment of one minute at the end passes the tests 8 and 9
+    pub stops-2 : r .k ≡ length ys → r .k ≡ r .k0 → {p : Span} → p ≡ cutOf (r .k0) (r .k) (r .mean) → Stops r p
+    stops-2 h o e =
+        let one = o ∙ sym (suc-before (r .k0) (G .first)) in
+        stops _ _
+        (step-10 ys smoothing W G h (calm8 (pos smoothing) ys (W .some) (smooth ys smoothing W) s (G .sound) h one)
+        (calm9 (pos smoothing) ys (W .some) (smooth ys smoothing W) s (G .sound) h one))
+        (ap as-segment e ∙ cut-segment (r .k0) (r .k) (r .mean) (G .first))
+
+  -- ---- the lists, which were a and b when the walk began at `from`, have its first m segments written in them
+  module _ (from : Variables) (a : List ℕ) (b : List ℤ) where
+    abbrev whole : List Segment
+    whole = rest ys smoothing from
+
+    pub record Written (lengths : List ℕ) (totals : List ℤ) (m : ℕ) : Type 0 where
+      pub lengths-are : lengths ≡ sets a 0 (line-lengths (take m whole))
+      pub totals-are : totals ≡ sets b 0 (line-totals (take m whole))
+
+    pub record Kept (lengths : List ℕ) (totals : List ℤ) (m : ℕ) (r : Variables) : Type 0 where
+      pub good : Good ys smoothing r
+      pub start : 0 < from .k0
+      pub ahead : from .k0 + m ≤ r .k0
+      pub parts : rest ys smoothing r ≡ drop m whole
+      pub written : Written lengths totals m
+
+    pub kept-first : Good ys smoothing from → Kept a b 0 from
+    kept-first G = record { good = G; start = G .first; ahead = omega arith; parts = refl; written = record { lengths-are = refl; totals-are = refl } }
+
+    module _ {lengths : List ℕ} {totals : List ℤ} {m : ℕ} (w : Written lengths totals m) where
+      pub lengths-long : length lengths ≡ length a
+      lengths-long = ap length (w .lengths-are) ∙ length-sets a 0 (line-lengths (take m whole))
+
+      pub totals-long : length totals ≡ length b
+      totals-long = ap length (w .totals-are) ∙ length-sets b 0 (line-totals (take m whole))
+
+      written-more : (g : Segment) (t : List Segment) → drop m whole ≡ g ∷ t → {l′ : List ℕ} {t′ : List ℤ} →
+          (l′ ≡ set lengths m (g .len)) × (t′ ≡ set totals m (g .total)) → Written l′ t′ (m + 1)
+      written-more g t e s =
+          let q = add-one m in
+          let z = zero-add m in
+          record {
+            lengths-are = s .0 ∙ rw (w .lengths-are, q) (ap (λ k. set (sets a 0 (line-lengths (take m whole))) k (g .len)) (sym z) ∙ stored (λ s. s .len) m whole 0 a e);
+            totals-are = s .1 ∙ rw (w .totals-are, q) (ap (λ k. set (sets b 0 (line-totals (take m whole))) k (g .total)) (sym z) ∙ stored (λ s. s .total) m whole 0 b e);
+          }
+
+    module _ {lengths : List ℕ} {totals : List ℤ} {m : ℕ} {r : Variables} (K : Kept lengths totals m r) where
+      -- there is room for a segment
+      few : Limited ys smoothing → m < length ys
+      few W = omega (arith, K .start, K .ahead, suc-before (r .k0) (K .good .first), known ys smoothing W (K .good) .from, known ys smoothing W (K .good) .upto)
+
+      pub tight : Limited ys smoothing → m < 65536
+      tight W = omega (arith, few W, W .few)
+
+      pub room : Limited ys smoothing → Fits ys a b → m < length a → (m < length lengths) × (m < length totals)
+      room W F h = (omega (arith, lengths-long (K .written)), omega (arith, totals-long (K .written), F .both m (few W) h))
+
+      -- a minute more
+      pub kept-on : (q : Variables) → Goes r q → Kept lengths totals m q
+      kept-on q E = record { good = E .good; start = K .start; ahead = rw (E .same) (K .ahead); parts = E .rest ∙ K .parts; written = K .written }
+
+      -- a segment more
+      pub kept-turn : (p : Span) (q : Variables) → Emits r p q → {n : ℕ} {l : List ℕ} {t : List ℤ} →
+          (n ≡ m + 1) × ((l ≡ set lengths m (p .len)) × (t ≡ set totals m (p .total))) → Kept l t n q
+      kept-turn p q E s = rw (s .0) record {
+        good = E .good;
+        start = K .start;
+        ahead = omega (arith, K .ahead, E .further);
+        parts = ap (drop 1) (sym (E .rest) ∙ K .parts) ∙ drop-drop 1 m whole;
+        written = written-more (K .written) (as-segment p) (rest ys smoothing q) (sym (K .parts) ∙ E .rest) (s .1);
+      }
+
+      -- the last segment
+      pub ended : (p : Span) → Stops r p → m < length a → {w : Walked} {l : List ℕ} {t : List ℤ} →
+          (w ≡ doneOf (m + 1)) × ((l ≡ set lengths m (p .len)) × (t ≡ set totals m (p .total))) → Walks ys smoothing from (length a) w × Written l t (w .segments)
+      ended p S h s = rw (s .0) (
+        (omega arith, omega (arith, length-drop m whole, ap length (sym (S .rest) ∙ K .parts))),
+        written-more (K .written) (as-segment p) [] (sym (K .parts) ∙ S .rest) (s .1),
+      )
+
+      -- no room for two more
+      pub stands : m < length a → length lengths ≤ m + 1 → r .k < length ys → {w : Walked} → w ≡ pausedOf m r →
+          Walks ys smoothing from (length a) w × Written lengths totals (w .segments)
+      stands h f k s = rw s ((omega (arith, lengths-long (K .written)), K .good, k, K .ahead, K .parts), K .written)
+
+    -- in lists with an entry for each minute the walk comes to the end
+    pub all-written : Limited ys smoothing → Good ys smoothing from → length ys ≤ length a → (w : Walked) → Walks ys smoothing from (length a) w → w .segments ≡ length whole
+    all-written W G h w = go (w .next)
+      where
+        go : (n : Next) → Reached ys smoothing from (length a) (w .segments) n → w .segments ≡ length whole
+        go Next.Done H = H .1
+        go (Next.At q) H =
+            let K = H .1 in
+            absurd (omega (arith, H .0, H .2, H .3, G .first, suc-before (q .k0) (K .first), known ys smoothing W K .from))
+
+  -- ---- step 1
+  pub starts : Limited ys smoothing → {r : Variables} → r ≡ variablesOf (begin d 0 (pos 0)) → Starts ys smoothing r × (rest ys smoothing r ≡ plain-line (pos smoothing) ys)
+  starts W e = (
+    subst (Starts ys smoothing) (sym e) (record { good = begin-good ys smoothing W 0 (pos 0) (W .some) (omega arith); one = λ k. refl }),
+    ap (λ q. lines d (stateOf q)) e ∙ sym (line-lines d (valid ys smoothing W)),
+  )

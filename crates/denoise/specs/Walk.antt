@@ -1,0 +1,78 @@
+-- What the walk from step to step keeps and gives: the segments that are left, and where it stands.
+use mathlib.Core.Path.{_≡_}
+use mathlib.Core.List.{List}
+use Prim.Native.Nat.{ℕ, _+_, _<_, _≤_}
+use lib.ListN.{length, drop}
+use lib.IntN.{ℤ, pos}
+use Rattle.optimality.specs.Segments.{Segment}
+use Rattle.optimality.specs.Machine.{Out, on, emit, stop, segment, step}
+use Rattle.optimality.specs.MachineLaws.{Sound, lines}
+use Rattle.optimality.specs.SmallNumbers as SmallNumbers
+use Rattle.denoise.specs.Variables.{dataOf, stateOf, variablesOf}
+use Rattle.denoise.specs.declared.steps.Variables.{Variables}
+use Rattle.denoise.specs.declared.steps.Span.{Span}
+use Rattle.denoise.specs.declared.walk.Scanned.{Scanned}
+use Rattle.denoise.specs.declared.walk.Scanned.the-variants as Scanned
+use Rattle.denoise.specs.declared.walk.Finished.{Finished}
+use Rattle.denoise.specs.declared.walk.Finished.the-variants as Finished
+use Rattle.denoise.specs.declared.walk.Next.{Next}
+use Rattle.denoise.specs.declared.walk.Next.the-variants as Next
+use Rattle.denoise.specs.declared.walk.Walked.{Walked}
+
+abbrev pub as-segment : Span → Segment
+as-segment p = segment (p .len) (p .n) (p .total)
+
+abbrev pub doneOf : ℕ → Walked
+doneOf m = record { segments = m; next = Next.Done }
+
+abbrev pub pausedOf : ℕ → Variables → Walked
+pausedOf m r = record { segments = m; next = Next.At r }
+
+-- ---- a pass is a step of the machine; where it sets a part of x, the next segment has one minute
+-- steps 3 to 6
+abbrev pub ScanIs : Scanned → Out → Type 0
+ScanIs (Scanned.On q) (on s) = q ≡ variablesOf s
+ScanIs (Scanned.On q) (emit g s) = ⊥
+ScanIs (Scanned.On q) (stop g) = ⊥
+ScanIs (Scanned.Set p q) (on s) = ⊥
+ScanIs (Scanned.Set p q) (emit g s) = (as-segment p ≡ g) × (q ≡ variablesOf s) × (q .k ≡ q .k0)
+ScanIs (Scanned.Set p q) (stop g) = ⊥
+
+-- steps 8 to 10
+abbrev pub FinishIs : Finished → Out → Type 0
+FinishIs (Finished.Set p q) (on s) = ⊥
+FinishIs (Finished.Set p q) (emit g s) = (as-segment p ≡ g) × (q ≡ variablesOf s) × (q .k ≡ q .k0)
+FinishIs (Finished.Set p q) (stop g) = ⊥
+FinishIs (Finished.End p) (on s) = ⊥
+FinishIs (Finished.End p) (emit g s) = ⊥
+FinishIs (Finished.End p) (stop g) = as-segment p ≡ g
+
+module _ (ys : List ℤ) (smoothing : ℕ) where
+  -- the variables are those of a state that the machine can come to
+  pub record Good (r : Variables) : Type 0 where
+    pub first : 0 < r .k0
+    pub sound : Sound (dataOf ys smoothing) (stateOf r)
+    pub small : SmallNumbers.Small (pos smoothing) ys (stateOf r)
+
+  -- the segments from there on
+  abbrev pub rest : Variables → List Segment
+  rest r = lines (dataOf ys smoothing) (stateOf r)
+
+  -- at step 2: at the last minute the segment under construction has no other
+  pub record Starts (r : Variables) : Type 0 where
+    pub good : Good r
+    pub one : r .k ≡ length ys → r .k ≡ r .k0
+
+  -- a walk over lists of `room` entries: m segments were left; or m were written, one less than there is room for, and the rest comes from q on, at step 3
+  abbrev pub Reached : Variables → ℕ → ℕ → Next → Type 0
+  Reached from room m Next.Done = (m ≤ room) × (m ≡ length (rest from))
+  Reached from room m (Next.At q) = (m + 1 ≡ room) × Good q × (q .k < length ys) × (from .k0 + m ≤ q .k0) × (rest q ≡ drop m (rest from))
+
+  abbrev pub Walks : Variables → ℕ → Walked → Type 0
+  Walks from room w = Reached from room (w .segments) (w .next)
+
+-- there are entries for a segment, and for two where there are two minutes; where there is one for its length there is one for its total
+pub record Fits (ys : List ℤ) (lengths : List ℕ) (totals : List ℤ) : Type 0 where
+  pub one : 0 < length lengths
+  pub two : 1 < length ys → 1 < length lengths
+  pub both : (m : ℕ) → m < length ys → m < length lengths → m < length totals
