@@ -8,7 +8,7 @@ use mathlib.Core.Option.{Option, none}
 use native.Mathlib.Omega.{arith}
 use Prim.Native.Nat.{ℕ, zero, suc, _+_, _<_, _≤_}
 use lib.Seq.{drop-cons, drop-drop}
-use lib.ListN.{length, length-map, getD, drop, List·getD-map}
+use lib.ListN.{length, length-drop, length-map, getD, drop, List·getD-map}
 use lib.IntN.{ℤ, pos, negℤ, _+ℤ_, _*ℤ_, _-ℤ_}
 use Rattle.integers.specs.Order.{_⩽_, _⋖_, ⋖→⩽, gap, gap<}
 use Rattle.integers.specs.Laws.{one-*ℤ}
@@ -175,20 +175,23 @@ module _ (L a b : ℤ) (ms : List Minute) where
       let u = turn-dual m (z +ℤ g .total) g t (P .1) in
       whole i m z g (P .0) (t ∷ l) (λ x v k e. rw (e, exact i m z g (P .0) (side L g t) u, u) (meets m (z +ℤ g .total) t l (P .2) (suc k))) (g .len) k refl
 
-  unbroken : (l : List Segment) → Path d 0 (pos 0) l → first-break L a b ms l ≡ none
+  unbroken : (i : ℕ) (z : ℤ) (l : List Segment) → Path d i z l → first-break L (R d i -ℤ z) b (drop i ms) l ≡ none
   unfolding first-break
-  unbroken [] P = refl
-  unbroken (g ∷ l) P = subst (λ u. break-from L b 1 ms g (by-divisor g u) (g .len) l ≡ none) (sym (start-is d)) (meets 0 (pos 0) g l P 1)
+  unbroken i z [] P = refl
+  unbroken i z (g ∷ l) P = meets i z g l P 1
 
-  -- a path through the tube is the line
-  pub path-line : (l : List Segment) → Path d 0 (pos 0) l → IsLine L a b ms l
-  path-line l P = record {
-    formed = record { proper = proper d 0 (pos 0) l P; long = omega (arith, long d 0 (pos 0) l P); weighed = weighed 0 (pos 0) l P };
-    meets = unbroken l P;
+  -- a path through the tube is the line of the minutes that it goes through
+  pub path-from : (i : ℕ) (z : ℤ) (l : List Segment) → Path d i z l → IsLine L (R d i -ℤ z) b (drop i ms) l
+  path-from i z l P = record {
+    formed = record { proper = proper d i z l P; long = omega (arith, long d i z l P, length-drop i ms); weighed = weighed i z l P };
+    meets = unbroken i z l P;
   }
 
+  pub path-line : (l : List Segment) → Path d 0 (pos 0) l → IsLine L a b ms l
+  path-line l P = subst (λ u. IsLine L u b ms l) (sym (start-is d)) (path-from 0 (pos 0) l P)
+
 -- ---- the theorem
-weight-at : (ms : List Minute) → Positive ms → (j : ℕ) → j < length ms → pos 0 ⋖ (getD ms j (plain-minute (pos 0))) .weight
+pub weight-at : (ms : List Minute) → Positive ms → (j : ℕ) → j < length ms → pos 0 ⋖ (getD ms j (plain-minute (pos 0))) .weight
 unfolding Positive
 weight-at [] h j k = absurd (omega arith)
 weight-at (m ∷ ms) h zero k = h .0

@@ -4,7 +4,7 @@ use mathlib.Core.Path.{_≡_, refl}
 use mathlib.Core.Bool.{Bool, true, false}
 use mathlib.Core.List.{[], _∷_}
 use mathlib.Core.Logic.{_⊎_, inl, inr, ⊎-elim}
-use lib.IntN.{ℤ, pos, _*ℤ_, _-ℤ_}
+use lib.IntN.{ℤ, pos, _+ℤ_, _*ℤ_, _-ℤ_}
 use lib.Signed.{ltZ, ≤ℤ-refl, clashℤ}
 use Rattle.integers.specs.Order.{_⩽_, _⋖_, gap, gap<, 0⋖+, ⋖→⩽, lt-true, lt-false}
 use Rattle.integers.specs.Ring.{reify}
@@ -17,10 +17,13 @@ pub record Fraction : Type 0 where
 abbrev pub fraction : ℤ → ℤ → Fraction
 fraction t n = record { num = t; den = n }
 
--- as vectors: from s to r
-infixl 6 _⊟_
+-- as vectors: from s to r, and one after the other
+infixl 6 _⊟_ _⊞_
 abbrev pub _⊟_ : Fraction → Fraction → Fraction
 r ⊟ s = fraction (r .num -ℤ s .num) (r .den -ℤ s .den)
+
+abbrev pub _⊞_ : Fraction → Fraction → Fraction
+r ⊞ s = fraction (r .num +ℤ s .num) (r .den +ℤ s .den)
 
 infix 5 _≼_ _≺_
 pub record _≼_ (r s : Fraction) : Type 0 where
@@ -53,6 +56,9 @@ pub record OrderLaws (le lt : Fraction → Fraction → Type 0) : Type 0 where
   -- seen from s, which is not below v, what is below v still is
   pub sub-le : {r v s : Fraction} → le r v → le v s → pos 0 ⋖ r .den -ℤ s .den → le (r ⊟ s) v
   pub sub-lt : {r v s : Fraction} → lt r v → le v s → pos 0 ⋖ r .den -ℤ s .den → lt (r ⊟ s) v
+  -- and two that are not above v, one after the other
+  pub add-le : {r v s : Fraction} → le r v → le s v → le (r ⊞ s) v
+  pub add-lt : {r v s : Fraction} → lt r v → le s v → lt (r ⊞ s) v
 
 -- ---- over ℤ: fractions a / m, b / n, c / p
 lele-z : (a m b n c p : ℤ) → pos 0 ⋖ m → pos 0 ⋖ n → pos 0 ⋖ p → n *ℤ a ⩽ m *ℤ b → p *ℤ b ⩽ n *ℤ c → p *ℤ a ⩽ m *ℤ c
@@ -69,6 +75,18 @@ sup-le-z a m b n c p h k = by⩽ (a ∷ m ∷ b ∷ n ∷ c ∷ p ∷ []) (gap h
 
 sup-lt-z : (a m b n c p : ℤ) → m *ℤ b ⋖ n *ℤ a → n *ℤ c ⩽ p *ℤ b → (m -ℤ p) *ℤ b ⋖ n *ℤ (a -ℤ c)
 sup-lt-z a m b n c p h k = by0⋖ (a ∷ m ∷ b ∷ n ∷ c ∷ p ∷ []) (0⋖+ (gap< h) (gap k)) (search reify depth 20 fits 5000) refl
+
+add-le-z : (a m b n c p : ℤ) → n *ℤ a ⩽ m *ℤ b → n *ℤ c ⩽ p *ℤ b → n *ℤ (a +ℤ c) ⩽ (m +ℤ p) *ℤ b
+add-le-z a m b n c p h k = by⩽ (a ∷ m ∷ b ∷ n ∷ c ∷ p ∷ []) (gap h ⊕ gap k) (search reify depth 20) refl
+
+add-lt-z : (a m b n c p : ℤ) → n *ℤ a ⋖ m *ℤ b → n *ℤ c ⩽ p *ℤ b → n *ℤ (a +ℤ c) ⋖ (m +ℤ p) *ℤ b
+add-lt-z a m b n c p h k = by0⋖ (a ∷ m ∷ b ∷ n ∷ c ∷ p ∷ []) (0⋖+ (gap< h) (gap k)) (search reify depth 20) refl
+
+sum-le-z : (a m b n c p : ℤ) → m *ℤ b ⩽ n *ℤ a → p *ℤ b ⩽ n *ℤ c → (m +ℤ p) *ℤ b ⩽ n *ℤ (a +ℤ c)
+sum-le-z a m b n c p h k = by⩽ (a ∷ m ∷ b ∷ n ∷ c ∷ p ∷ []) (gap h ⊕ gap k) (search reify depth 20 fits 5000) refl
+
+sum-lt-z : (a m b n c p : ℤ) → m *ℤ b ⋖ n *ℤ a → p *ℤ b ⩽ n *ℤ c → (m +ℤ p) *ℤ b ⋖ n *ℤ (a +ℤ c)
+sum-lt-z a m b n c p h k = by0⋖ (a ∷ m ∷ b ∷ n ∷ c ∷ p ∷ []) (0⋖+ (gap< h) (gap k)) (search reify depth 20 fits 5000) refl
 
 -- ---- of fractions
 rfl′ : (r : Fraction) → pos 0 ⋖ r .den → r ≼ r
@@ -121,6 +139,16 @@ upward = record {
     right = h .right;
     cross = sub-lt-z (r .num) (r .den) (v .num) (v .den) (s .num) (s .den) (h .cross) (k .cross);
   };
+  add-le = λ {r} {v} {s} h k. record {
+    left = 0⋖+ (h .left) (⋖→⩽ (k .left));
+    right = h .right;
+    cross = add-le-z (r .num) (r .den) (v .num) (v .den) (s .num) (s .den) (h .cross) (k .cross);
+  };
+  add-lt = λ {r} {v} {s} h k. record {
+    left = 0⋖+ (h .left) (⋖→⩽ (k .left));
+    right = h .right;
+    cross = add-lt-z (r .num) (r .den) (v .num) (v .den) (s .num) (s .den) (h .cross) (k .cross);
+  };
 }
 
 pub downward : OrderLaws (λ r s. s ≼ r) (λ r s. s ≺ r)
@@ -140,5 +168,15 @@ downward = record {
     left = h .left;
     right = p;
     cross = sup-lt-z (r .num) (r .den) (v .num) (v .den) (s .num) (s .den) (h .cross) (k .cross);
+  };
+  add-le = λ {r} {v} {s} h k. record {
+    left = h .left;
+    right = 0⋖+ (h .right) (⋖→⩽ (k .right));
+    cross = sum-le-z (r .num) (r .den) (v .num) (v .den) (s .num) (s .den) (h .cross) (k .cross);
+  };
+  add-lt = λ {r} {v} {s} h k. record {
+    left = h .left;
+    right = 0⋖+ (h .right) (⋖→⩽ (k .right));
+    cross = sum-lt-z (r .num) (r .den) (v .num) (v .den) (s .num) (s .den) (h .cross) (k .cross);
   };
 }

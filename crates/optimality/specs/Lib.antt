@@ -7,6 +7,7 @@ pub mod Cost
 pub mod Minimum
 pub mod Machine
 pub mod TenSteps
+pub mod TautString
 -- Laws: what meets the conditions is the minimum, and the only one.
 pub mod ConditionsLaws
 pub mod Scales
@@ -27,6 +28,7 @@ pub mod StepTests
 pub mod StepInvariant
 pub mod MachineLaws
 pub mod Correctness
+pub mod Remainder
 pub mod SmallNumbers
 pub mod Known
 -- Laws: the ten steps as printed are the machine's.
@@ -34,5 +36,14 @@ pub mod FractionLaws
 pub mod SameValues
 pub mod TenStepsLaws
 pub mod TenStepsLine
+-- Laws: the taut string gives the same line, in linear time.
+pub mod Fall
+pub mod ClosedTube
+pub mod Chain
+pub mod Pooling
+pub mod TautBounds
+pub mod TautCorrectness
+pub mod TautSmallNumbers
+pub mod TautWork
 -- All of it in one place.
 pub mod Theorems

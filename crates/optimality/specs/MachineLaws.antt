@@ -155,6 +155,11 @@ module _ (d : Increments) (r : ValidIncrements d) where
   run-meets (suc f) c z s I S h =
       follow-meets (λ s′. run d f s′) c z s (λ c′ z′ s′ I′ S′ l. run-meets f c′ z′ s′ I′ S′ (omega arith)) S (step d s) (step-good d r c z s I S)
 
+  -- from a sound state on
+  pub lines-path : {s : State} (S : Sound d s) → Path d (s .i) (S .z) (lines d s)
+  unfolding lines
+  lines-path {s} S = run-meets (suc (left d s)) first (S .z) s (S .inv) tt (omega arith) .path
+
   pub line-path : Path d 0 (pos 0) (line d)
   unfolding line
   line-path = run-meets (suc (N * suc N + N)) first (pos 0) (begin d 0 a) (begun d r 0 (pos 0) a (start-is d) (r .some)) tt (start-less N) .path

@@ -82,7 +82,7 @@ module _ (δ : View) where
     soon : (h : ℕ) → Soon i z p h → Ahead i z p
     last : Last i z p → Ahead i z p
 
-diff-z : (a b z : ℤ) → a -ℤ z -ℤ (b -ℤ z) ≡ a -ℤ b
+pub diff-z : (a b z : ℤ) → a -ℤ z -ℤ (b -ℤ z) ≡ a -ℤ b
 diff-z a b z = ring (a ∷ b ∷ z ∷ []) (search reify depth 20) refl
 
 -- a slope seen from minute κ, where Z is c
@@ -93,7 +93,7 @@ last-or : {j k : ℕ} → j ≤ suc k → (j ≡ suc k) ⊎ (j ≤ k)
 last-or {j} {k} h = ⊎-elim inl (λ (l : j < suc k). inr (omega arith)) (eq-or-lt-of-le h)
 
 -- what holds at suc k and up to k holds up to suc k
-one-more : {k : ℕ} (P : ℕ → Type 0) (j : ℕ) → P (suc k) → (j ≤ k → P j) → j ≤ suc k → P j
+pub one-more : {k : ℕ} (P : ℕ → Type 0) (j : ℕ) → P (suc k) → (j ≤ k → P j) → j ≤ suc k → P j
 one-more {k} P j at before h = ⊎-elim (λ (q : j ≡ suc k). subst P (sym q) at) before (last-or h)
 
 module _ {δ : View} (w : OpenTube δ) where
@@ -102,18 +102,18 @@ module _ {δ : View} (w : OpenTube δ) where
   pub wider : (i j : ℕ) → i < j → j ≤ δ .N → pos 0 ⋖ δ .W j -ℤ δ .W i
   wider i j h k = gap< (w .grow i j h k)
 
-  self : (i : ℕ) (z : ℤ) (j : ℕ) → i < j → j ≤ δ .N → δ .le (near-at δ i z j) (near-at δ i z j)
+  pub self : (i : ℕ) (z : ℤ) (j : ℕ) → i < j → j ≤ δ .N → δ .le (near-at δ i z j) (near-at δ i z j)
   self i z j h k = laws .rfl (near-at δ i z j) (wider i j h k)
 
   rest : (i κ j : ℕ) → κ < j → j ≤ δ .N → pos 0 ⋖ δ .W j -ℤ δ .W i -ℤ (δ .W κ -ℤ δ .W i)
   rest i κ j b h = subst (λ t. pos 0 ⋖ t) (sym (diff-z (δ .W j) (δ .W κ) (δ .W i))) (wider κ j b h)
 
   -- what is under v still is, seen from a point that is on v or above it
-  move-lt : (f : ℕ → ℤ) (i κ j : ℕ) (z c : ℤ) (v : Fraction) → κ < j → j ≤ δ .N → δ .lt (slope (δ .W) f i z j) v →
+  pub move-lt : (f : ℕ → ℤ) (i κ j : ℕ) (z c : ℤ) (v : Fraction) → κ < j → j ≤ δ .N → δ .lt (slope (δ .W) f i z j) v →
       δ .le v (fraction (c -ℤ z) (δ .W κ -ℤ δ .W i)) → δ .lt (slope (δ .W) f κ c j) v
   move-lt f i κ j z c v b m h k = subst (λ r. δ .lt r v) (rebase (δ .W) f i κ j z c) (laws .sub-lt h k (rest i κ j b m))
 
-  move-le : (f : ℕ → ℤ) (i κ j : ℕ) (z c : ℤ) (v : Fraction) → κ < j → j ≤ δ .N → δ .le (slope (δ .W) f i z j) v →
+  pub move-le : (f : ℕ → ℤ) (i κ j : ℕ) (z c : ℤ) (v : Fraction) → κ < j → j ≤ δ .N → δ .le (slope (δ .W) f i z j) v →
       δ .le v (fraction (c -ℤ z) (δ .W κ -ℤ δ .W i)) → δ .le (slope (δ .W) f κ c j) v
   move-le f i κ j z c v b m h k = subst (λ r. δ .le r v) (rebase (δ .W) f i κ j z c) (laws .sub-le h k (rest i κ j b m))
 

@@ -1,5 +1,5 @@
 -- Within the limits the machine's numbers stay small along the run of a plain series, so that each term it forms fits 64 bits.
--- A segment of n minutes begins with a dual of at most L, so |U| ≤ L + 2^24 n.
+-- A segment begins with a dual of at most L; after n minutes |U| ≤ L + 2^24 n.
 use mathlib.Core.Path.{_≡_, refl, _∙_, ap}
 use mathlib.Core.Bool.{Bool, true, false, cond}
 use mathlib.Core.List.{List, [], _∷_}
@@ -12,6 +12,7 @@ use lib.IntN.{ℤ, pos, negℤ, natAbs, _+ℤ_, _*ℤ_, _-ℤ_}
 use mir.Syntax.{w64}
 use mir.Val.{SFits}
 use Rattle.integers.specs.Order.{_⩽_, abs-+, abs-neg}
+use Rattle.integers.specs.Ring.{ring, reify}
 use Rattle.integers.specs.Bounds.{Upto, cleaning, fit}
 use Rattle.optimality.specs.Series.{plain, Bounded, Limited}
 use Rattle.optimality.specs.Machine.{Increments, plain-increments, State, Out, on, emit, stop, begin, more, inside, final, step}
@@ -23,6 +24,9 @@ use Rattle.optimality.specs.MachineLaws.{Sound, Facts, After, facts, ins
 pub record SmallBound (t n : ℤ) : Type 0 where
   pub total : Upto 3298534883328 t
   pub divisor : Upto 65536 n
+
+minus-plus : (u y : ℤ) → u +ℤ y -ℤ y ≡ u
+minus-plus u y = ring (u ∷ y ∷ []) (search reify depth 20) refl
 
 picked : (b : Bool) (t n t′ n′ : ℤ) → SmallBound t n → SmallBound t′ n′ → SmallBound (cond b t t′) (cond b n n′)
 picked true t n t′ n′ h k = h
@@ -44,6 +48,7 @@ module _ (L : ℤ) (ys : List ℤ) where
   pub record Small (s : State) : Type 0 where
     pub count : s .n ≡ pos (s .k - s .i)
     pub sum : natAbs (s .U) ≤ natAbs L + 16777216 * (s .k - s .i)
+    pub start : s .k ≡ suc (s .i) → natAbs (s .U -ℤ y (s .i)) ≤ natAbs L
     pub min : SmallBound (s .tmin) (s .nmin)
     pub max : SmallBound (s .tmax) (s .nmax)
 
@@ -100,6 +105,7 @@ module _ (L : ℤ) (ys : List ℤ) where
         record {
           count = rw n;
           sum = rw n U;
+          start = λ q. rw (minus-plus u (y i)) h;
           min = touched (u +ℤ y i) 1 (negℤ L) (abs-neg L) U (omega arith);
           max = touched (u +ℤ y i) 1 L refl U (omega arith);
         }
@@ -135,6 +141,7 @@ module _ (L : ℤ) (ys : List ℤ) where
           record {
             count = n;
             sum = U;
+            start = λ q. absurd (omega (arith, F .from));
             min = picked keep-min (s .tmin) (s .nmin) (U′ d s -ℤ L) (n′ d s) (B .min) (new (negℤ L) (abs-neg L));
             max = picked keep-max (s .tmax) (s .nmax) (U′ d s +ℤ L) (n′ d s) (B .max) (new L refl);
           }
@@ -145,8 +152,8 @@ module _ (L : ℤ) (ys : List ℤ) where
       inside-goes false false h A = more-small h (keeps-min d s) (keeps-max d s)
 
       final-goes : (t8 t9 : Bool) → After d s (final d s t8 t9) → SmallAfter (final d s t8 t9)
-      final-goes true t9 A = let f = fallen (s .kmin) (A .short) in record { count = f .count; sum = f .sum; min = f .min; max = B .max }
-      final-goes false true A = let f = risen (s .kmax) (A .short) in record { count = f .count; sum = f .sum; min = B .min; max = f .max }
+      final-goes true t9 A = let f = fallen (s .kmin) (A .short) in record { count = f .count; sum = f .sum; start = f .start; min = f .min; max = B .max }
+      final-goes false true A = let f = risen (s .kmax) (A .short) in record { count = f .count; sum = f .sum; start = f .start; min = B .min; max = f .max }
       final-goes false false A = tt
 
       -- ---- a step from a small state

@@ -144,7 +144,7 @@ module _ (d : Increments) where
 more-z : (x y w : ℤ) → x ⩽ y → pos 0 ⋖ w → x ⋖ y +ℤ w
 more-z x y w h k = omega (int, sum y w)
 
-wide-z : (x L : ℤ) → pos 0 ⩽ L → x -ℤ L ⩽ x +ℤ L
+pub wide-z : (x L : ℤ) → pos 0 ⩽ L → x -ℤ L ⩽ x +ℤ L
 wide-z x L h = by⩽ (x ∷ L ∷ []) (h ⊕ h) (search reify depth 20) refl
 
 above-z : (x L b : ℤ) → b ⩽ L → x -ℤ L ⩽ x -ℤ b
@@ -156,7 +156,7 @@ beneath-z x L b h = by⩽ (x ∷ L ∷ b ∷ []) (gap h) (search reify depth 20)
 scale-z : (n a b z : ℤ) → pos 0 ⋖ n → a ⩽ b → n *ℤ (a -ℤ z) ⩽ n *ℤ (b -ℤ z)
 scale-z n a b z p h = by⩽ (n ∷ a ∷ b ∷ z ∷ []) (⋖→⩽ p ⊗ gap h) (search reify depth 20 fits 5000) refl
 
-higher : (a b z n : ℤ) → pos 0 ⋖ n → a ⩽ b → fraction (a -ℤ z) n ≼ fraction (b -ℤ z) n
+pub higher : (a b z n : ℤ) → pos 0 ⋖ n → a ⩽ b → fraction (a -ℤ z) n ≼ fraction (b -ℤ z) n
 higher a b z n p h = record { left = p; right = p; cross = scale-z n a b z p h }
 
 grows : (N : ℕ) (f : ℕ → ℤ) → ((j : ℕ) → j < N → pos 0 ⋖ f j) → (i j : ℕ) → i < j → j ≤ N → prefix f i ⋖ prefix f j
@@ -171,7 +171,7 @@ grows N f g i (suc j) h k =
 module _ (d : Increments) (r : ValidIncrements d) where
   open Increments d using (N, w, L, b)
 
-  grow : (i j : ℕ) → i < j → j ≤ N → W d i ⋖ W d j
+  pub grow : (i j : ℕ) → i < j → j ≤ N → W d i ⋖ W d j
   grow = grows N w (r .weights)
 
   tube : (i : ℕ) (z : ℤ) (j : ℕ) → i < j → j ≤ N → near-at (view d floor) i z j ≼ near-at (view d roof) i z j
