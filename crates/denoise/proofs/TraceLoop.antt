@@ -21,7 +21,7 @@ use Rattle.series.specs.Answer.{refill}
 use Rattle.series.proofs.AnswerLaws.{sets-refill}
 use Rattle.denoise.specs.Dual.{duals}
 use Rattle.denoise.specs.Variables.{dataOf, stateOf}
-use Rattle.denoise.specs.Walk.{Good, rest, Starts, Reached, Walks, Fits}
+use Rattle.denoise.specs.Walk.{Good, rest, Starts, Pauses, Reached, Walks, Fits}
 use Rattle.denoise.specs.Trace.{filledOf, endOf, spanOf, FillsAll, endAll}
 use Rattle.denoise.specs.declared.steps.Variables.{Variables}
 use Rattle.denoise.specs.declared.tracing.Origin.{Origin}
@@ -137,8 +137,8 @@ module _ (ys : List ℤ) (smoothing : ℕ) where
   -- ---- what the loop keeps
   module _ (out₀ : List ℤ) where
     pub record Tracing (ns : List ℕ) (ts : List ℤ) (out : List ℤ) (r : Variables) (o : Origin) : Type 0 where
-      pub lengths : length ns ≡ 64
-      pub totals : length ts ≡ 64
+      pub lengths : length ns ≡ 128
+      pub totals : length ts ≡ 128
       pub starts : Starts ys smoothing r
       pub long : length out ≡ length out₀
       pub as-lists : AsLists (rest ys smoothing r)
@@ -146,7 +146,7 @@ module _ (ys : List ℤ) (smoothing : ℕ) where
       pub fills : filledAll ys out o (rest ys smoothing r) ≡ filledAll ys out₀ first line
 
     module _ (W : Limited ys smoothing) where
-      pub tracing-first : (ns : List ℕ) (ts : List ℤ) → length ns ≡ 64 → length ts ≡ 64 → (r : Variables) → Starts ys smoothing r →
+      pub tracing-first : (ns : List ℕ) (ts : List ℤ) → length ns ≡ 128 → length ts ≡ 128 → (r : Variables) → Starts ys smoothing r →
           rest ys smoothing r ≡ line → Tracing ns ts out₀ r first
       tracing-first ns ts h k r S e =
           let F = Theorems.meets (pos smoothing) ys (W .some) (0⩽pos smoothing) .formed in
@@ -166,17 +166,17 @@ module _ (ys : List ℤ) (smoothing : ℕ) where
         abbrev l : List Segment
         l = rest ys smoothing r
 
-        pub fits : Fits ys ns ts
-        fits = record { one = omega (arith, K .lengths); two = λ _. omega (arith, K .lengths); both = λ m h k. omega (arith, K .lengths, K .totals) }
+        pub fits : Fits ys 126 ns ts
+        fits = record { room = λ m h k. (omega (arith, K .lengths), omega (arith, K .totals)) }
 
-        -- so many had room, and so many were left
-        count : (m : ℕ) (n : Next) → Reached ys smoothing r (length ns) m n → (m ≤ length ns) × (m ≤ length l)
-        count m Next.Done H = (H .0, omega (arith, H .1))
-        count m (Next.At q) H = (omega (arith, H .0), omega (arith, length-drop m l, ap length (H .4), rest-some W (H .1)))
+        -- so many were left
+        count : (m : ℕ) (n : Next) → Reached ys smoothing r 126 m n → m ≤ length l
+        count m Next.Done e = omega (arith, e)
+        count m (Next.At q) P = omega (arith, length-drop m l, ap length (P .rest), rest-some W (P .good))
 
         -- a walk over the two lists, which then hold the segments that it gave
         module _ (w : Walked) {ns′ : List ℕ} {ts′ : List ℤ}
-            (H : Walks ys smoothing r (length ns) w × ((ns′ ≡ sets ns 0 (line-lengths (take (w .segments) l)))
+            (H : Walks ys smoothing r 126 (length ns) w × ((ns′ ≡ sets ns 0 (line-lengths (take (w .segments) l)))
             × (ts′ ≡ sets ts 0 (line-totals (take (w .segments) l))))) where
           abbrev m : ℕ
           m = w .segments
@@ -191,40 +191,40 @@ module _ (ys : List ℤ) (smoothing : ℕ) where
           long-totals = ap length (H .1 .1) ∙ length-sets ts 0 (line-totals (take m l))
 
           pub room : (m ≤ length ns′) × (m ≤ length ts′)
-          room = let c = count m (w .next) (H .0) in (omega (arith, long-lengths), omega (arith, long-totals, K .lengths, K .totals))
+          room = (omega (arith, H .0 .fits, long-lengths), omega (arith, H .0 .fits, long-totals, K .lengths, K .totals))
 
           given-is : given ≡ take m l
           given-is =
-              let c = count m (w .next) (H .0) in
               ap₂ (λ ns ts. segments (take m ns) (take m ts)) (H .1 .0) (H .1 .1)
-              ∙ written m ns ts (take m l) (c .0) (omega (arith, K .lengths, K .totals)) (length-take-le m l (c .1)) (as-lists-take m l (K .as-lists))
+              ∙ written m ns ts (take m l) (H .0 .fits) (omega (arith, H .0 .fits, K .lengths, K .totals)) (length-take-le m l (count m (w .next) (H .0 .reached)))
+              (as-lists-take m l (K .as-lists))
 
           pub given-fills : FillsAll ys o given
           given-fills = rw given-is (fills-take ys m o l (K .fillable))
 
           -- more comes from q on
           module _ (q : Variables) (e : w .next ≡ Next.At q) where
-            at : Reached ys smoothing r (length ns) m (Next.At q)
-            at = subst (Reached ys smoothing r (length ns) m) e (H .0)
+            at : Pauses ys smoothing r 126 m q
+            at = subst (Reached ys smoothing r 126 m) e (H .0 .reached)
 
             pub tracing-less : length ys - q .k0 < length ys - r .k0
-            tracing-less = omega (arith, at .0, at .3, K .lengths, stands-within W (at .1))
+            tracing-less = omega (arith, at .spent, at .further, stands-within W (at .good))
 
             pub tracing-turn : Tracing ns′ ts′ (filledAll ys out o given) q (endAll ys o given)
             tracing-turn = rw given-is record {
               lengths = long-lengths ∙ K .lengths;
               totals = long-totals ∙ K .totals;
-              starts = record { good = at .1; one = λ k. absurd (omega (arith, at .2)) };
+              starts = record { good = at .good; one = λ k. at .one };
               long = simp length-sets (K .long);
-              as-lists = rw (at .4) (as-lists-drop m l (K .as-lists));
-              fillable = rw (at .4) (fills-drop ys m o l (K .fillable));
-              fills = rw (at .4) (sym (filled-parts ys m out o l (K .fillable)) ∙ K .fills);
+              as-lists = rw (at .rest) (as-lists-drop m l (K .as-lists));
+              fillable = rw (at .rest) (fills-drop ys m o l (K .fillable));
+              fills = rw (at .rest) (sym (filled-parts ys m out o l (K .fillable)) ∙ K .fills);
             }
 
           -- that was all
           pub traced : w .next ≡ Next.Done → length ys ≤ length out₀ → filledAll ys out o given ≡ refill (duals (pos 0) (plain ys) line) out₀
           traced e h =
-              let all = subst (Reached ys smoothing r (length ns) m) e (H .0) in
-              ap (filledAll ys out o) (given-is ∙ take-all m l (omega (arith, all .1)))
+              let all = subst (Reached ys smoothing r 126 m) e (H .0 .reached) in
+              ap (filledAll ys out o) (given-is ∙ take-all m l (omega (arith, all)))
               ∙ K .fills
               ∙ sets-refill (duals (pos 0) (plain ys) line) out₀ (omega (arith, duals-short (pos 0) (plain ys) line, length-plain ys))

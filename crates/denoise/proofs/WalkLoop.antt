@@ -1,11 +1,11 @@
 -- What the loops of `walk::walk` keep: the segments that are left, written from here on, give the lists that the whole walk gives.
 use mathlib.Core.Path.{_≡_, refl, sym, _∙_, ap, subst}
-use mathlib.Core.Logic.{⊎-elim}
+use mathlib.Core.Logic.{_⊎_, inl, inr, ⊎-elim}
 use mathlib.Core.List.{List, [], _∷_, map}
 use native.Mathlib.Omega.{arith}
 use native.Mathlib.Numerals.{add-one}
 use native.Mathlib.Nat.{zero-add, eq-or-lt-of-le}
-use Prim.Native.Nat.{ℕ, zero, suc, _+_, _<_, _≤_}
+use Prim.Native.Nat.{ℕ, zero, suc, _+_, _*_, _-_, _<_, _≤_}
 use lib.ListN.{length, set, take, drop, length-drop}
 use lib.Seq.{sets, length-sets, drop-drop}
 use lib.IntN.{ℤ, pos}
@@ -138,6 +138,19 @@ module _ (ys : List ℤ) (smoothing : ℕ) where
         (calm9 (pos smoothing) ys (W .some) (smooth ys smoothing W) s (G .sound) h one))
         (ap as-segment e ∙ cut-segment (r .k0) (r .k) (r .mean) (G .first))
 
+  -- ---- the minutes looked at for m segments: one or more for each, and at most 65,536
+  pub record Counted (m spent : ℕ) : Type 0 where
+    pub least : m ≤ spent
+    pub most : spent ≤ 65536 * m
+
+  -- a segment more
+  module _ (W : Limited ys smoothing) {r : Variables} (G : Good ys smoothing r) where
+    pub looked : (r .k0 ≤ r .k) × (r .k ≤ 65536)
+    looked = let F = known ys smoothing W G in (omega (arith, F .from, suc-before (r .k0) (G .first)), omega (arith, F .upto, W .few))
+
+    pub counted : {m spent : ℕ} → Counted m spent → (n k : ℕ) → n ≡ m + 1 → k ≡ suc (r .k) - r .k0 → Counted n (spent + k)
+    counted C n k e f = record { least = omega (arith, C .least, looked); most = omega (arith, C .most, looked, G .first) }
+
   -- ---- the lists, which were a and b when the walk began at `from`, have its first m segments written in them
   module _ (from : Variables) (a : List ℕ) (b : List ℤ) where
     abbrev whole : List Segment
@@ -182,8 +195,8 @@ module _ (ys : List ℤ) (smoothing : ℕ) where
       pub tight : Limited ys smoothing → m < 65536
       tight W = omega (arith, few W, W .few)
 
-      pub room : Limited ys smoothing → Fits ys a b → m < length a → (m < length lengths) × (m < length totals)
-      room W F h = (omega (arith, lengths-long (K .written)), omega (arith, totals-long (K .written), F .both m (few W) h))
+      pub room : Limited ys smoothing → {budget : ℕ} → Fits ys budget a b → m ≤ budget + 1 → (m < length lengths) × (m < length totals)
+      room W F h = let f = F .room m (few W) h in (omega (arith, f .0, lengths-long (K .written)), omega (arith, f .1, totals-long (K .written)))
 
       -- a minute more
       pub kept-on : (q : Variables) → Goes r q → Kept lengths totals m q
@@ -201,27 +214,80 @@ module _ (ys : List ℤ) (smoothing : ℕ) where
       }
 
       -- the last segment
-      pub ended : (p : Span) → Stops r p → m < length a → {w : Walked} {l : List ℕ} {t : List ℤ} →
-          (w ≡ doneOf (m + 1)) × ((l ≡ set lengths m (p .len)) × (t ≡ set totals m (p .total))) → Walks ys smoothing from (length a) w × Written l t (w .segments)
-      ended p S h s = rw (s .0) (
-        (omega arith, omega (arith, length-drop m whole, ap length (sym (S .rest) ∙ K .parts))),
-        written-more (K .written) (as-segment p) [] (sym (K .parts) ∙ S .rest) (s .1),
-      )
+      module _ (W : Limited ys smoothing) {budget : ℕ} (F : Fits ys budget a b) (h : m ≤ budget + 1) where
+        within : m < length a
+        within = F .room m (few W) h .0
 
-      -- no room for two more
-      pub stands : m < length a → length lengths ≤ m + 1 → r .k < length ys → {w : Walked} → w ≡ pausedOf m r →
-          Walks ys smoothing from (length a) w × Written lengths totals (w .segments)
-      stands h f k s = rw s ((omega (arith, lengths-long (K .written)), K .good, k, K .ahead, K .parts), K .written)
+        pub ended : (p : Span) → Stops r p → {w : Walked} {l : List ℕ} {t : List ℤ} →
+            (w ≡ doneOf (m + 1)) × ((l ≡ set lengths m (p .len)) × (t ≡ set totals m (p .total))) →
+            Walks ys smoothing from budget (length a) w × Written l t (w .segments)
+        ended p S s = rw (s .0) (
+          record { fits = omega (arith, within); reached = omega (arith, length-drop m whole, ap length (sym (S .rest) ∙ K .parts)) },
+          written-more (K .written) (as-segment p) [] (sym (K .parts) ∙ S .rest) (s .1),
+        )
 
-    -- in lists with an entry for each minute the walk comes to the end
-    pub all-written : Limited ys smoothing → Good ys smoothing from → length ys ≤ length a → (w : Walked) → Walks ys smoothing from (length a) w → w .segments ≡ length whole
-    all-written W G h w = go (w .next)
+        -- the budget is spent
+        pub stands : {spent : ℕ} → Counted m spent → budget < spent → r .k < length ys → r .k ≡ r .k0 → {w : Walked} → w ≡ pausedOf m r →
+            Walks ys smoothing from budget (length a) w × Written lengths totals (w .segments)
+        stands C f k o s = rw s (
+          record {
+            fits = omega (arith, within);
+            reached = record { spent = omega (arith, C .most); good = K .good; before = k; one = o; further = K .ahead; rest = K .parts };
+          },
+          K .written,
+        )
+
+    -- ---- with a budget
+    module _ (budget : ℕ) where
+      -- at step 3: a minute is left, and the budget is not spent
+      pub record Inside (lengths : List ℕ) (totals : List ℤ) (m spent : ℕ) (r : Variables) : Type 0 where
+        pub kept : Kept lengths totals m r
+        pub counted : Counted m spent
+        pub within : spent ≤ budget
+        pub before : r .k < length ys
+
+      -- at step 7: the budget is not spent, or the segment under construction has the last minute alone
+      pub record Ending (lengths : List ℕ) (totals : List ℤ) (m spent : ℕ) (r : Variables) : Type 0 where
+        pub kept : Kept lengths totals m r
+        pub counted : Counted m spent
+        pub room : m ≤ budget + 1
+        pub within : (spent ≤ budget) ⊎ ((r .k ≡ length ys) × (r .k ≡ r .k0))
+
+      -- after a segment, written by these two stores
+      pub record Turned (lengths : List ℕ) (totals : List ℤ) (m spent : ℕ) (r : Variables) : Type 0 where
+        pub kept : Kept lengths totals m r
+        pub counted : Counted m spent
+        pub room : m ≤ budget + 1
+        pub one : r .k ≡ r .k0
+
+      pub inside-first : Good ys smoothing from → from .k < length ys → Inside a b 0 0 from
+      inside-first G h = record { kept = kept-first G; counted = record { least = omega arith; most = omega arith }; within = omega arith; before = h }
+
+      module _ {lengths : List ℕ} {totals : List ℤ} {m spent : ℕ} {r : Variables} where
+        pub inside-on : Inside lengths totals m spent r → (q : Variables) → Goes r q → Ending lengths totals m spent q
+        inside-on I q E = record { kept = kept-on (I .kept) q E; counted = I .counted; room = omega (arith, I .counted .least, I .within); within = inl (I .within) }
+
+        pub turned : Limited ys smoothing → Kept lengths totals m r → Counted m spent → spent ≤ budget → (p : Span) (q : Variables) → Emits r p q →
+            {n : ℕ} {l : List ℕ} {t : List ℤ} → (n ≡ m + 1) × ((l ≡ set lengths m (p .len)) × (t ≡ set totals m (p .total))) →
+            (k : ℕ) → k ≡ suc (r .k) - r .k0 → Turned l t n (spent + k) q
+        turned W K C h p q E s k e = record {
+          kept = kept-turn K p q E s;
+          counted = counted W (K .good) C _ k (s .0) e;
+          room = omega (arith, C .least, s .0);
+          one = E .one;
+        }
+
+        pub again : Turned lengths totals m spent r → (spent ≤ budget) ⊎ (r .k ≡ length ys) → Ending lengths totals m spent r
+        again T h = record { kept = T .kept; counted = T .counted; room = T .room; within = ⊎-elim inl (λ e. inr (e, T .one)) h }
+
+    -- a walk with so large a budget comes to the end
+    pub all-written : Limited ys smoothing → Good ys smoothing from → {budget room : ℕ} → 4294967296 ≤ budget → (w : Walked) →
+        Walks ys smoothing from budget room w → w .segments ≡ length whole
+    all-written W G {budget} h w H = go (w .next) (H .reached)
       where
-        go : (n : Next) → Reached ys smoothing from (length a) (w .segments) n → w .segments ≡ length whole
-        go Next.Done H = H .1
-        go (Next.At q) H =
-            let K = H .1 in
-            absurd (omega (arith, H .0, H .2, H .3, G .first, suc-before (q .k0) (K .first), known ys smoothing W K .from))
+        go : (n : Next) → Reached ys smoothing from budget (w .segments) n → w .segments ≡ length whole
+        go Next.Done e = e
+        go (Next.At q) P = absurd (omega (arith, P .spent, P .before, P .further, P .one, W .few))
 
   -- ---- step 1
   pub starts : Limited ys smoothing → {r : Variables} → r ≡ variablesOf (begin d 0 (pos 0)) → Starts ys smoothing r × (rest ys smoothing r ≡ plain-line (pos smoothing) ys)

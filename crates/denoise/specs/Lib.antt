@@ -4,4 +4,5 @@ pub mod Dual
 -- What its inner functions keep and give.
 pub mod Variables
 pub mod Walk
+pub mod Attempt
 pub mod Trace

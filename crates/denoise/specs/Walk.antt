@@ -1,7 +1,7 @@
 -- What the walk from step to step keeps and gives: the segments that are left, and where it stands.
 use mathlib.Core.Path.{_≡_}
 use mathlib.Core.List.{List}
-use Prim.Native.Nat.{ℕ, _+_, _<_, _≤_}
+use Prim.Native.Nat.{ℕ, _+_, _*_, _<_, _≤_}
 use lib.ListN.{length, drop}
 use lib.IntN.{ℤ, pos}
 use Rattle.optimality.specs.Segments.{Segment}
@@ -63,16 +63,26 @@ module _ (ys : List ℤ) (smoothing : ℕ) where
     pub good : Good r
     pub one : r .k ≡ length ys → r .k ≡ r .k0
 
-  -- a walk over lists of `room` entries: m segments were left; or m were written, one less than there is room for, and the rest comes from q on, at step 3
+  -- after m segments, for which more minutes than the budget were looked at, at most 65,536 for each, the rest comes from q on, at step 3, where a segment
+  -- has begun
+  pub record Pauses (from : Variables) (budget m : ℕ) (q : Variables) : Type 0 where
+    pub spent : budget < 65536 * m
+    pub good : Good q
+    pub before : q .k < length ys
+    pub one : q .k ≡ q .k0
+    pub further : from .k0 + m ≤ q .k0
+    pub rest : rest q ≡ drop m (rest from)
+
+  -- all segments that were left, or as many as the budget allows
   abbrev pub Reached : Variables → ℕ → ℕ → Next → Type 0
-  Reached from room m Next.Done = (m ≤ room) × (m ≡ length (rest from))
-  Reached from room m (Next.At q) = (m + 1 ≡ room) × Good q × (q .k < length ys) × (from .k0 + m ≤ q .k0) × (rest q ≡ drop m (rest from))
+  Reached from budget m Next.Done = m ≡ length (rest from)
+  Reached from budget m (Next.At q) = Pauses from budget m q
 
-  abbrev pub Walks : Variables → ℕ → Walked → Type 0
-  Walks from room w = Reached from room (w .segments) (w .next)
+  -- a walk over lists of `room` entries
+  pub record Walks (from : Variables) (budget room : ℕ) (w : Walked) : Type 0 where
+    pub fits : w .segments ≤ room
+    pub reached : Reached from budget (w .segments) (w .next)
 
--- there are entries for a segment, and for two where there are two minutes; where there is one for its length there is one for its total
-pub record Fits (ys : List ℤ) (lengths : List ℕ) (totals : List ℤ) : Type 0 where
-  pub one : 0 < length lengths
-  pub two : 1 < length ys → 1 < length lengths
-  pub both : (m : ℕ) → m < length ys → m < length lengths → m < length totals
+-- there are entries for each minute, or for two segments more than the budget: each has a minute that is looked at
+pub record Fits (ys : List ℤ) (budget : ℕ) (lengths : List ℕ) (totals : List ℤ) : Type 0 where
+  pub room : (m : ℕ) → m < length ys → m ≤ budget + 1 → (m < length lengths) × (m < length totals)

@@ -11,6 +11,7 @@ ghost use Rattle.denoise.specs.Dual.{balancesOf, balancesAfter};
 use series::Checked;
 use series::Filled;
 
+pub mod inner;
 mod steps;
 mod tracing;
 mod walk;

@@ -1,4 +1,4 @@
-// The dual along a line, written minute by minute. The segments come from the walk of the ten steps, 63 at a time.
+// The dual along a line, written minute by minute. The segments come from the walk of the ten steps, some at a time.
 
 ghost use mathlib.Core.Path.{_≡_};
 ghost use Prim.Native.Nat.{_≤_, _<_};
@@ -38,13 +38,13 @@ pub(crate) fn trace(samples: &[i32], smoothing: u64, out: &mut [i64])
     ensures { λ _. ⌜ now (out .exit) ≡ refill (duals (pos 0) (plain (now (samples .entry))) (plain-line (pos smoothing) (now (samples .entry))))
         (now (out .entry)) ⌝ }
 {
-    let mut lengths = [0u32; 64];
-    let mut totals = [0i64; 64];
+    let mut lengths = [0u32; 128];
+    let mut totals = [0i64; 128];
     // 1
     let mut from = steps::step_1(samples, smoothing);
     let mut o = Origin { i: 0, u: 0 };
     loop {
-        let w = walk::walk(samples, smoothing, from, &mut lengths, &mut totals);
+        let w = walk::walk(samples, smoothing, from, 126, &mut lengths, &mut totals);
         o = fill_all(samples, o, &lengths, &totals, w.segments, out);
         let next = w.next;
         match next {

@@ -1,7 +1,7 @@
 // The way from step to step, for the line and for the dual: the parts of x are written as segments.
 
 ghost use mathlib.Core.Path.{_≡_};
-ghost use Prim.Native.Nat.{_+_, _≤_, _<_};
+ghost use Prim.Native.Nat.{suc, _+_, _-_, _≤_, _<_};
 ghost use lib.ListN.{length, set, take};
 ghost use lib.Seq.{sets};
 ghost use lib.IntN.{pos};
@@ -14,6 +14,10 @@ ghost use Rattle.denoise.specs.Walk.{ScanIs, FinishIs, Good, rest, Start
 use super::steps;
 use super::steps::Span;
 use super::steps::Variables;
+use series::MINUTES;
+
+// No walk looks at more minutes: for each of its segments at most those of the series.
+const ENOUGH: usize = MINUTES * MINUTES;
 
 // What comes of steps 3 to 6, and of steps 8 to 10.
 pub enum Scanned {
@@ -26,7 +30,7 @@ pub enum Finished {
     End(Span),
 }
 
-// How the walk ended: x is set, or the lists have no room and it goes on from these variables, before step 3.
+// How the walk ended: x is set, or the budget is spent and it goes on from these variables, before step 3.
 pub enum Next {
     Done,
     At(Variables),
@@ -81,25 +85,27 @@ fn finish(samples: &[i32], smoothing: u64, r: Variables) -> Finished
     Finished::End(steps::step_10(samples, smoothing, r))
 }
 
-// The steps from step 2 on, until x is set or the lists have room for one segment only: each part of x is written as a segment, the first one at the lists'
-// first entries.
+// The steps from step 2 on, until x is set or more than `budget` minutes were looked at, some of them again and again. Each part of x is written as a segment,
+// the first one at the lists' first entries.
 pub(crate) fn walk(
     samples: &[i32],
     smoothing: u64,
     from: Variables,
+    budget: usize,
     lengths: &mut [u32],
     totals: &mut [i64],
 ) -> Walked
     requires { ⌜ Limited (now samples) smoothing ⌝ }
     requires { ⌜ Starts (now samples) smoothing from ⌝ }
-    requires { ⌜ Fits (now samples) (now lengths) (now totals) ⌝ }
-    ensures answer { λ w. ⌜ Walks (now (samples .entry)) smoothing from (length (now (lengths .entry))) w ⌝ }
+    requires { ⌜ Fits (now samples) budget (now lengths) (now totals) ⌝ }
+    ensures answer { λ w. ⌜ Walks (now (samples .entry)) smoothing from budget (length (now (lengths .entry))) w ⌝ }
     ensures lengths { λ w. ⌜ now (lengths .exit) ≡ sets (now (lengths .entry)) 0
         (line-lengths (take (w .segments) (rest (now (samples .entry)) smoothing from))) ⌝ }
     ensures totals { λ w. ⌜ now (totals .exit) ≡ sets (now (totals .entry)) 0
         (line-totals (take (w .segments) (rest (now (samples .entry)) smoothing from))) ⌝ }
 {
     let mut m = 0;
+    let mut spent = 0;
     let mut r = from;
     // 2
     if r.k == samples.len() {
@@ -111,8 +117,9 @@ pub(crate) fn walk(
             Scanned::On(next) => r = next,
             Scanned::Set(x, next) => {
                 m = write(x, m, lengths, totals);
+                spent += looked_at(r);
                 r = next;
-                if m + 1 >= lengths.len() {
+                if spent > budget {
                     if r.k < samples.len() {
                         return paused(m, r);
                     }
@@ -125,6 +132,7 @@ pub(crate) fn walk(
             match finish(samples, smoothing, r) {
                 Finished::Set(x, next) => {
                     m = write(x, m, lengths, totals);
+                    spent += looked_at(r);
                     r = next;
                 }
                 Finished::End(x) => return last(x, m, lengths, totals),
@@ -133,11 +141,20 @@ pub(crate) fn walk(
             if r.k == samples.len() {
                 return last(steps::step_2(samples, smoothing, r), m, lengths, totals);
             }
-            if m + 1 >= lengths.len() {
+            if spent > budget {
                 return paused(m, r);
             }
         }
     }
+}
+
+// The minutes from k0 to k.
+fn looked_at(r: Variables) -> usize
+    requires { ⌜ r .k0 ≤ r .k ⌝ }
+    requires { ⌜ r .k ≤ 65536 ⌝ }
+    ensures { λ n. ⌜ n ≡ suc (r .k) - r .k0 ⌝ }
+{
+    r.k + 1 - r.k0
 }
 
 // A part of x, written as segment m; and how many there are then.
@@ -188,6 +205,6 @@ pub(crate) fn draw(samples: &[i32], smoothing: u64, lengths: &mut [u32], totals:
 {
     // 1
     let from = steps::step_1(samples, smoothing);
-    let w = walk(samples, smoothing, from, lengths, totals);
+    let w = walk(samples, smoothing, from, ENOUGH, lengths, totals);
     w.segments as u32
 }

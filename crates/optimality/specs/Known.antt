@@ -1,4 +1,4 @@
--- The known lines of RULES 2.6, those with a star: one theorem over one table, by computing the machine.
+-- The known lines of RULES 2.6, those with a star: over one table, by computing the machine, and by computing the taut string.
 use mathlib.Core.Path.{_≡_, refl}
 use mathlib.Core.List.{List, [], _∷_, map}
 use Prim.Native.Nat.{ℕ}
@@ -6,7 +6,8 @@ use lib.IntN.{ℤ, pos, negℤ, _*ℤ_}
 use Rattle.optimality.specs.Series.{plain}
 use Rattle.optimality.specs.Conditions.{dual}
 use Rattle.optimality.specs.Segments.{Segment, numerators}
-use Rattle.optimality.specs.Machine.{plain-line, step, run, line}
+use Rattle.optimality.specs.Machine.{plain-increments, plain-line, step, run, line}
+use Rattle.optimality.specs.TautString.{bottom, rest, drop-first, pool, fill, falls, scan, taut-line}
 
 pub record Row : Type 0 where
   pub samples : List ℤ
@@ -39,6 +40,11 @@ table =
 pub known-lines : map (λ r. plain-line (r .smoothing) (r .samples)) table ≡ map (λ r. r .segments) table
 unfolding line run step
 known-lines = refl
+
+-- and by the taut string
+pub known-taut-lines : map (λ r. taut-line (plain-increments (r .smoothing) (r .samples))) table ≡ map (λ r. r .segments) table
+unfolding taut-line scan falls fill pool drop-first bottom rest
+known-taut-lines = refl
 
 -- u[1] = −5 in the fifth row, over the scale 2
 pub known-dual : let ys = pos 0 ∷ pos 10 ∷ [] in dual (pos 2) (pos 0) (plain ys) (numerators 2 (plain-line (pos 5) ys)) 1 ≡ pos 2 *ℤ negℤ (pos 5)

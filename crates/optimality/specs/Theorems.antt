@@ -1,8 +1,9 @@
 -- What is proved of the line of a plain series, in one place: it meets (6) and (7), it alone does, it is the minimum (RULES 2.3, 2.5), its
--- totals add up to the samples, its levels stay in the samples' range, and the ten steps as the paper prints them write it.
+-- totals add up to the samples, its levels stay in the samples' range, the ten steps as the paper prints them write it, and the taut string draws it in at
+-- most four steps a minute.
 use mathlib.Core.Path.{_≡_}
 use mathlib.Core.List.{List}
-use Prim.Native.Nat.{ℕ, _<_}
+use Prim.Native.Nat.{ℕ, _*_, _<_, _≤_}
 use lib.ListN.{length}
 use lib.IntN.{ℤ, pos}
 use Rattle.integers.specs.Order.{_⩽_}
@@ -11,7 +12,7 @@ use Rattle.optimality.specs.Series.{plain, Bounded}
 use Rattle.optimality.specs.Conditions.{Optimal}
 use Rattle.optimality.specs.Segments.{Segment, IsLine, Scale, numerators}
 use Rattle.optimality.specs.Minimum.{PlainMinimum}
-use Rattle.optimality.specs.Machine.{plain-line}
+use Rattle.optimality.specs.Machine.{plain-increments, plain-line}
 use Rattle.optimality.specs.FirstBreakLaws.{optimal}
 use Rattle.optimality.specs.Uniqueness.{unique}
 use Rattle.optimality.specs.PlainSeries.{plain-positive, line-totals}
@@ -21,6 +22,9 @@ use Rattle.optimality.specs.SampleRange.{Within, in-range}
 use Rattle.optimality.specs.Correctness.{plain-correct}
 use Rattle.optimality.specs.TenSteps.{solution}
 use Rattle.optimality.specs.TenStepsLine.{Writes, printed-line}
+use Rattle.optimality.specs.TautString.{taut-line}
+use Rattle.optimality.specs.TautCorrectness.{plain-fast-line}
+use Rattle.optimality.specs.TautWork.{work, linear}
 
 module _ (L : ℤ) (ys : List ℤ) (some : 0 < length ys) (smooth : pos 0 ⩽ L) where
   pub meets : IsLine L (pos 0) (pos 0) (plain ys) (plain-line L ys)
@@ -45,3 +49,10 @@ module _ (L : ℤ) (ys : List ℤ) (some : 0 < length ys) (smooth : pos 0 ⩽ L)
   -- the ten steps as printed
   pub printed : Writes 0 (solution L ys) (plain-line L ys)
   printed = printed-line L ys some smooth
+
+  -- the taut string
+  pub taut : taut-line (plain-increments L ys) ≡ plain-line L ys
+  taut = plain-fast-line L ys some smooth
+
+  pub taut-linear : work (plain-increments L ys) ≤ 4 * length ys
+  taut-linear = linear (plain-increments L ys) some

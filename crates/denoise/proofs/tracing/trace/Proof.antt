@@ -1,4 +1,4 @@
--- `denoise::tracing::trace` meets its contract: each turn fills in as many segments as the lists hold, and keeps what the list comes to.
+-- `denoise::tracing::trace` meets its contract: each turn fills in the segments that a walk gives, and keeps what the list comes to.
 use borrow.Author.Needs.{needs}
 use mathlib.Core.Path.{refl, sym, _∙_}
 use native.Mathlib.Omega.{arith}
@@ -36,10 +36,10 @@ walk-requires c κs =
 
 -- ---- the dual along what it gave
 slice-aggregate-fill-all : tie.Need-slice-aggregate-fill-all Inv-loop μ-loop
-slice-aggregate-fill-all c = let w = c .before .before .before in sym (w .walk .kept .1 .1 .1 .0 ∙ w .before .before .before .loop .inv .lengths)
+slice-aggregate-fill-all c = let w = c .before .before .before in sym (w .walk .kept .1 .1 .1 .1 .0 ∙ w .before .before .before .loop .inv .lengths)
 
 slice-aggregate-fill-all-2 : tie.Need-slice-aggregate-fill-all-2 Inv-loop μ-loop
-slice-aggregate-fill-all-2 c = let w = c .before .before .before .before in sym (w .walk .kept .1 .1 .1 .1 .0 ∙ w .before .before .before .loop .inv .totals)
+slice-aggregate-fill-all-2 c = let w = c .before .before .before .before in sym (w .walk .kept .1 .1 .1 .1 .1 .0 ∙ w .before .before .before .loop .inv .totals)
 
 fill-all-requires : tie.Need-fill-all-requires Inv-loop μ-loop
 fill-all-requires c κs =

@@ -1,0 +1,63 @@
+// For the crates above: the ten steps as long as they look at few minutes again. It asks for a series within the limits, and for room.
+
+ghost use mathlib.Core.Path.{_≡_};
+ghost use Prim.Native.Nat.{_-_, _≤_, _<_};
+ghost use lib.ListN.{length, getD, take};
+ghost use lib.IntN.{pos};
+ghost use Rattle.integers.specs.Bounds.{Upto};
+ghost use Rattle.optimality.specs.Series.{Limited};
+ghost use Rattle.optimality.specs.Machine.{plain-line};
+ghost use Rattle.optimality.specs.PlainSeries.{line-lengths, line-totals};
+ghost use Rattle.series.specs.Answer.{refill};
+ghost use Rattle.denoise.specs.Attempt.{segmentsOf, leftOff, Attempts};
+use super::steps;
+use super::steps::Variables;
+use super::walk;
+use super::walk::Next;
+
+// The line's segments; or the first of them, the minutes that they take and the dual there.
+pub enum Tried {
+    Done(u32),
+    Spent(u32, usize, i64),
+}
+
+// The line, or as much of it as comes of `budget` minutes and those of one segment more.
+pub fn attempt(
+    samples: &[i32],
+    smoothing: u64,
+    budget: usize,
+    lengths: &mut [u32],
+    totals: &mut [i64],
+) -> Tried
+    requires { ⌜ Limited (now samples) smoothing ⌝ }
+    requires { ⌜ length (now samples) ≤ length (now lengths) ⌝ }
+    requires { ⌜ length (now samples) ≤ length (now totals) ⌝ }
+    ensures answer { λ r. ⌜ Attempts (now (samples .entry)) smoothing budget r ⌝ }
+    ensures lengths { λ r. ⌜ now (lengths .exit) ≡
+        refill (line-lengths (take (segmentsOf r) (plain-line (pos smoothing) (now (samples .entry))))) (now (lengths .entry)) ⌝ }
+    ensures totals { λ r. ⌜ now (totals .exit) ≡
+        refill (line-totals (take (segmentsOf r) (plain-line (pos smoothing) (now (samples .entry))))) (now (totals .entry)) ⌝ }
+{
+    // 1
+    let from = steps::step_1(samples, smoothing);
+    let w = walk::walk(samples, smoothing, from, budget, lengths, totals);
+    let m = w.segments as u32;
+    let next = w.next;
+    match next {
+        Next::Done => Tried::Done(m),
+        Next::At(r) => left_off(samples, m, r),
+    }
+}
+
+// After m segments, where the next one has one minute so far.
+fn left_off(samples: &[i32], m: u32, r: Variables) -> Tried
+    requires { ⌜ 0 < r .k0 ⌝ }
+    requires { ⌜ r .k0 - 1 < length (now samples) ⌝ }
+    requires { ⌜ Upto 2199023255552 (r .mean .total) ⌝ }
+    requires { ⌜ Upto 16777216 (getD (now samples) (r .k0 - 1) (pos 0)) ⌝ }
+    ensures { λ t. ⌜ t ≡ leftOff (now (samples .entry)) m r ⌝ }
+{
+    let i = r.k0 - 1;
+    let mean = r.mean;
+    Tried::Spent(m, i, mean.total - samples[i] as i64)
+}
