@@ -3,8 +3,9 @@
 use mathlib.Core.Path.{_≡_, refl, sym, ap, ap₂, _∙_, subst}
 use mathlib.Core.Bool.{_||_}
 use mathlib.Core.List.{List, map}
-use Prim.Native.Nat.{ℕ}
+use Prim.Native.Nat.{ℕ, _≤_}
 use lib.Dec.{ltb}
+use borrow.Author.Tests.{ltb-false}
 use lib.ListN.{length, take, drop, length-map}
 use lib.Seq.{take-at, drop-at}
 use lib.IntN.{ℤ, pos}
@@ -17,12 +18,13 @@ use Rattle.optimality.specs.TenSteps.{solution}
 use Rattle.optimality.specs.TenStepsLine.{Writes}
 use Rattle.optimality.specs.Theorems as Theorems
 use Rattle.level.specs.Answer.{Answer, refused, given, when-given}
-use Rattle.series.specs.Answer.{refill}
-use Rattle.denoise.specs.Line.{lineOf, lengthsOf, totalsOf}
+use Rattle.level.proofs.LimitsLaws.{or-false}
+use Rattle.series.specs.Answer.{refill, passing}
+use Rattle.denoise.specs.Line.{drawableOf, lineOf, lengthsOf, totalsOf}
 use Rattle.series.specs.Optimality.{Meets, Only, Least}
-use Rattle.series.proofs.Refusals.{never, same-given, if-past}
+use Rattle.series.proofs.Refusals.{never, same-given, if-past, Alike, pass, if-alike, stopped, passed}
 use Rattle.series.proofs.OptimalityLaws.{line-meets, meets-line, line-least}
-use Rattle.series.proofs.LimitsLaws.{limits-given}
+use Rattle.series.proofs.LimitsLaws.{limits-given, limits-alike}
 
 module _ (ys : List ℤ) (L : ℕ) (ns : List ℕ) (ts : List ℤ) (m : ℕ) (e : lineOf ys L ns ts ≡ given m) where
   abbrev l : List Segment
@@ -75,9 +77,20 @@ module _ (ys : List ℤ) (L : ℕ) (ns : List ℕ) (ts : List ℤ) (m : ℕ) (e 
   pub kept : (drop m (lengthsOf ys L ns ts) ≡ drop m ns) × (drop m (totalsOf ys L ns ts) ≡ drop m ts)
   kept = (lengths-are .1, totals-are .1)
 
+-- the tests before it, by themselves
+module _ (ys : List ℤ) (L a b : ℕ) where
+  pub drawable-alike : {A : Type 0} (x : Answer A) → Alike passing x (drawableOf ys L a b passing) (drawableOf ys L a b x)
+  drawable-alike x = limits-alike ys L (if-alike (ltb a (length ys) || ltb b (length ys)) 5 0 pass)
+
+  pub drawable-given : drawableOf ys L a b passing ≡ passing → Limited ys L × ((length ys ≤ a) × (length ys ≤ b))
+  drawable-given e =
+      let p = limits-given ys L e in
+      let q = or-false (ltb a (length ys)) (ltb b (length ys)) (if-past (ltb a (length ys) || ltb b (length ys)) (λ q. never q) (p .1) .0) in
+      (p .0, (ltb-false a (length ys) (q .0), ltb-false b (length ys) (q .1)))
+
 -- what a call promises of its answer and of the two lists, from what they are
 module _ (ys : List ℤ) (L : ℕ) (ns : List ℕ) (ts : List ℤ) (a : Answer ℕ) (ns′ : List ℕ) (ts′ : List ℤ) where
-  abbrev Told : Type 0
+  abbrev pub Told : Type 0
   Told = (a ≡ lineOf ys L ns ts) × ((ns′ ≡ lengthsOf ys L ns ts) × (ts′ ≡ totalsOf ys L ns ts))
 
   abbrev Promises : Type 0
@@ -94,3 +107,15 @@ module _ (ys : List ℤ) (L : ℕ) (ns : List ℕ) (ts : List ℤ) (a : Answer �
           × when-given o (λ m. Least ys L (segments (take m (lengthsOf ys L ns ts)) (take m (totalsOf ys L ns ts)))))
       best (refused number place) e = (tt, (tt, tt))
       best (given m) e = (meets ys L ns ts m e, (only ys L ns ts m e, least ys L ns ts m e))
+
+-- a call that tests, and then draws
+module _ (ys : List ℤ) (L : ℕ) (ns : List ℕ) (ts : List ℤ) where
+  abbrev tests : Answer (Unit {0})
+  tests = drawableOf ys L (length ns) (length ts) passing
+
+  pub refusal-told : (number place : ℕ) → tests ≡ refused number place → Told ys L ns ts (refused number place) ns ts
+  refusal-told number place e = let q = stopped (drawable-alike ys L (length ns) (length ts) (given (length (plain-line (pos L) ys)))) e in rw q (refl, (refl, refl))
+
+  pub line-told : (m : ℕ) (ns′ : List ℕ) (ts′ : List ℤ) → tests ≡ passing → let l = plain-line (pos L) ys in
+      (m ≡ length l) × ((ns′ ≡ refill (line-lengths l) ns) × (ts′ ≡ refill (line-totals l) ts)) → Told ys L ns ts (given m) ns′ ts′
+  line-told m ns′ ts′ e h = let q = passed (drawable-alike ys L (length ns) (length ts) (given (length (plain-line (pos L) ys)))) e .1 in rw q (ap given (h .0), h .1)

@@ -18,11 +18,13 @@ abbrev pub drawn : Drawn → Answer ℕ
 drawn (Drawn.Segments m) = given m
 drawn (Drawn.Refused number place) = refused number place
 
+-- 1, 2, 4 and 3, then 5 for two lists of so many entries
+abbrev pub drawableOf : {A : Type 0} → List ℤ → (smoothing lengths totals : ℕ) → Answer A → Answer A
+drawableOf ys smoothing lengths totals a = in-limits ys smoothing (refuse-if (ltb lengths (length ys) || ltb totals (length ys)) 5 0 a)
+
 module _ (ys : List ℤ) (smoothing : ℕ) (lengths : List ℕ) (totals : List ℤ) where
   abbrev pub lineOf : Answer ℕ
-  lineOf =
-      in-limits ys smoothing
-      (refuse-if (ltb (length lengths) (length ys) || ltb (length totals) (length ys)) 5 0 (given (length (plain-line (pos smoothing) ys))))
+  lineOf = drawableOf ys smoothing (length lengths) (length totals) (given (length (plain-line (pos smoothing) ys)))
 
   -- what the two lists then hold
   abbrev pub lengthsOf : List ℕ

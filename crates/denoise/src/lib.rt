@@ -3,10 +3,10 @@
 ghost use mathlib.Core.Path.{_≡_};
 ghost use lib.ListN.{take};
 ghost use Rattle.optimality.specs.PlainSeries.{segments};
-ghost use Rattle.level.specs.Answer.{when-given};
-ghost use Rattle.series.specs.Answer.{filled};
+ghost use Rattle.level.specs.Answer.{given, when-given};
+ghost use Rattle.series.specs.Answer.{checked, filled};
 ghost use Rattle.series.specs.Optimality.{Meets, Only, Least};
-ghost use Rattle.denoise.specs.Line.{drawn, lineOf, lengthsOf, totalsOf};
+ghost use Rattle.denoise.specs.Line.{drawn, drawableOf, lineOf, lengthsOf, totalsOf};
 ghost use Rattle.denoise.specs.Dual.{balancesOf, balancesAfter};
 use series::Checked;
 use series::Filled;
@@ -32,19 +32,29 @@ pub fn line(samples: &[i32], smoothing: u64, lengths: &mut [u32], totals: &mut [
     ensures least { λ r. ⌜ when-given (drawn r)
         (λ m. Least (now (samples .entry)) smoothing (segments (take m (now (lengths .exit))) (take m (now (totals .exit))))) ⌝ }
 {
+    match drawable(samples, smoothing, lengths.len(), totals.len()) {
+        Checked::Refused(number, place) => Drawn::Refused(number, place),
+        Checked::Passed => Drawn::Segments(walk::draw(samples, smoothing, lengths, totals)),
+    }
+}
+
+// 1, 2, 4 and 3 for a series, then 5 for two lists of so many entries.
+pub fn drawable(samples: &[i32], smoothing: u64, lengths: usize, totals: usize) -> Checked
+    ensures answer { λ r. ⌜ checked r ≡ drawableOf (now (samples .entry)) smoothing lengths totals (given tt) ⌝ }
+{
     match series::limits(samples, smoothing) {
         Checked::Refused(number, place) => {
-            return Drawn::Refused(number, place);
+            return Checked::Refused(number, place);
         }
         Checked::Passed => {}
     }
-    if lengths.len() < samples.len() {
-        return Drawn::Refused(5, 0);
+    if lengths < samples.len() {
+        return Checked::Refused(5, 0);
     }
-    if totals.len() < samples.len() {
-        return Drawn::Refused(5, 0);
+    if totals < samples.len() {
+        return Checked::Refused(5, 0);
     }
-    Drawn::Segments(walk::draw(samples, smoothing, lengths, totals))
+    Checked::Passed
 }
 
 // The dual of a series (the balances of RULES 2.4), minute by minute: each times the length of the segment that holds its minute.

@@ -11,6 +11,7 @@ use lib.Dec.{eqb}
 use lib.ListN.{length}
 use Rattle.codec.specs.LittleEndian.{getUnsigned}
 use Rattle.level.specs.Answer.{Answer, given}
+use Rattle.level.proofs.LimitsLaws.{or-false}
 use Rattle.series.proofs.SearchLaws.{none-found}
 use Rattle.series.proofs.Refusals.{never, if-past, at-past}
 use Rattle.layout.specs.Format.{minutes, segment-count, line-offset, size}
@@ -32,10 +33,6 @@ pub record InOrder (s : List ℕ) : Type 0 where
   pub table : AsInTable s
 
 -- ---- what a test that was passed says
-pub or-false : (a b : Bool) → a || b ≡ false → (a ≡ false) × (b ≡ false)
-or-false true b e = absurd (let z : _≡_ {A = ℕ} 0 1 = cc in omega arith)
-or-false false b e = (refl, e)
-
 equal : (a b : ℕ) → not (eqb a b) ≡ false → a ≡ b
 equal a b e = eqb-true a b (not-false (eqb a b) e)
 

@@ -1,9 +1,8 @@
-// The lists of a whole sheet, read, copied and written. Not for users: what is asked here of a sheet and of room, `sheet` has tested.
+// The lists of a whole sheet, read and written. Not for users: what is asked here of a sheet and of room, `sheet` has tested.
 ghost use mathlib.Core.Path.{_≡_};
 ghost use mathlib.Core.List.{_++_};
 ghost use Prim.Native.Nat.{_≤_};
 ghost use lib.ListN.{length, drop};
-ghost use Rattle.series.specs.Answer.{refill};
 ghost use Rattle.layout.specs.Answer.{fields};
 ghost use Rattle.layout.specs.Format.{minutes, segment-count, samples, lengths, totals, size, sheet-bytes};
 ghost use Rattle.layout.specs.HeadLaws.{InOrder};
@@ -42,35 +41,4 @@ pub fn encode(samples: &[i32], smoothing: u64, lengths: &[u32], totals: &[i64], 
     header::write_header(out, n as u32, m as u32, smoothing);
     lists::write_samples(samples, out, 32);
     lists::write_segments(lengths, totals, out, 32 + 4 * n);
-}
-
-// The samples, into the first entries of `out`; the others stay.
-pub fn copy_samples(samples: &[i32], out: &mut [i32])
-    requires { ⌜ length (now samples) ≤ length (now out) ⌝ }
-    ensures { λ _. ⌜ now (out .exit) ≡ refill (now (samples .entry)) (now (out .entry)) ⌝ }
-{
-    let mut i = 0;
-    while i < samples.len() {
-        let sample = samples[i];
-        out[i] = sample;
-        i += 1;
-    }
-}
-
-// The segments, into the first entries of two lists; the others stay.
-pub fn copy_segments(ns: &[u32], ts: &[i64], lengths: &mut [u32], totals: &mut [i64])
-    requires { ⌜ length (now ns) ≡ length (now ts) ⌝ }
-    requires { ⌜ length (now ns) ≤ length (now lengths) ⌝ }
-    requires { ⌜ length (now ts) ≤ length (now totals) ⌝ }
-    ensures { λ _. ⌜ now (lengths .exit) ≡ refill (now (ns .entry)) (now (lengths .entry)) ⌝ }
-    ensures { λ _. ⌜ now (totals .exit) ≡ refill (now (ts .entry)) (now (totals .entry)) ⌝ }
-{
-    let mut i = 0;
-    while i < ns.len() {
-        let length = ns[i];
-        let total = ts[i];
-        lengths[i] = length;
-        totals[i] = total;
-        i += 1;
-    }
 }

@@ -12,7 +12,7 @@ use Rattle.integers.specs.Bounds.{Upto, Atmost}
 use Rattle.level.specs.Limits.{bad-length, bad-total, Valid}
 use Rattle.level.specs.declared.Level.{Level}
 
-or-false : (x y : Bool) → (x || y) ≡ false → (x ≡ false) × (y ≡ false)
+pub or-false : (x y : Bool) → (x || y) ≡ false → (x ≡ false) × (y ≡ false)
 or-false true y e = absurd (subst T e tt)
 or-false false y e = (refl, e)
 

@@ -233,7 +233,8 @@ unfolding Proper total-length
 no-more [] p = omega arith
 no-more (s ∷ ss) p = omega (arith, no-more ss (p .2), p .0)
 
+pub line-few : {L a b : ℤ} {ms : List Minute} {ss : List Segment} → IsLine L a b ms ss → length ss ≤ length ms
+line-few {ss = ss} I = omega (arith, no-more ss (I .formed .proper), I .formed .long)
+
 pub plain-few : (L : ℤ) (ys : List ℤ) → 0 < length ys → pos 0 ⩽ L → length (plain-line L ys) ≤ length ys
-plain-few L ys some smooth =
-    let f = plain-correct L ys some smooth .formed in
-    omega (arith, no-more (plain-line L ys) (f .proper), f .long, length-plain ys)
+plain-few L ys some smooth = omega (arith, line-few (plain-correct L ys some smooth), length-plain ys)

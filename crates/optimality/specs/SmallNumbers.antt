@@ -10,10 +10,10 @@ use Prim.Native.Nat.{ℕ, zero, suc, _+_, _*_, _-_, _<_, _≤_}
 use lib.ListN.{length, getD}
 use lib.IntN.{ℤ, pos, negℤ, natAbs, _+ℤ_, _*ℤ_, _-ℤ_}
 use mir.Syntax.{w64}
-use mir.Val.{SFits}
+use mir.Val.{SFits, toZ, ofZ}
 use Rattle.integers.specs.Order.{_⩽_, abs-+, abs-neg}
 use Rattle.integers.specs.Ring.{ring, reify}
-use Rattle.integers.specs.Bounds.{Upto, cleaning, fit}
+use Rattle.integers.specs.Bounds.{Upto, cleaning, fit, clean}
 use Rattle.optimality.specs.Series.{plain, Bounded, Limited}
 use Rattle.optimality.specs.Machine.{Increments, plain-increments, State, Out, on, emit, stop, begin, more, inside, final, step}
 use Rattle.optimality.specs.Tube.{ValidIncrements, plain-valid}
@@ -24,6 +24,14 @@ use Rattle.optimality.specs.MachineLaws.{Sound, Facts, After, facts, ins
 pub record SmallBound (t n : ℤ) : Type 0 where
   pub total : Upto 3298534883328 t
   pub divisor : Upto 65536 n
+
+-- the product that the test of two bounds forms: it fits, and reads back as it is
+module _ {t n t′ n′ : ℤ} (h : SmallBound t n) (k : SmallBound t′ n′) where
+  pub product-fits : SFits w64 (toZ w64 (ofZ w64 n) *ℤ toZ w64 (ofZ w64 t′))
+  product-fits = fit (search cleaning depth 12) tt
+
+  pub product-read : toZ w64 (ofZ w64 (toZ w64 (ofZ w64 n) *ℤ toZ w64 (ofZ w64 t′))) ≡ n *ℤ t′
+  product-read = clean (search cleaning depth 12) tt
 
 minus-plus : (u y : ℤ) → u +ℤ y -ℤ y ≡ u
 minus-plus u y = ring (u ∷ y ∷ []) (search reify depth 20) refl

@@ -1,4 +1,4 @@
--- LimitedIncrements the limits every number of the taut string is small: from a minute i where the line is within 2^40 of the tube's middle, the tube up to any later
+-- Within the limits every number of the taut string is small: from a minute i where the line is within 2^40 of the tube's middle, the tube up to any later
 -- minute is at most 3 · 2^40 away and the weight at most 2^16. So each bound, each edge of a chain and each product of a test fits 64 bits.
 use mathlib.Core.Path.{_≡_, refl, sym, _∙_, ap, subst}
 use mathlib.Core.List.{[], _∷_}

@@ -9,6 +9,8 @@ ghost use Rattle.series.specs.Answer.{checked};
 ghost use Rattle.series.specs.Limits.{bad-sample, in-limits};
 use level::Level;
 
+pub mod inner;
+
 // The answer of a call that tests.
 pub enum Checked {
     Passed,
@@ -23,6 +25,8 @@ pub enum Filled {
 
 // The most minutes of a series.
 pub const MINUTES: usize = Level::MINUTES as usize;
+// The minutes of a day: a series of no more is worked on in little memory.
+pub const DAY: usize = 1_440;
 // The most tenths of a sample, either way.
 pub const TENTHS: i32 = Level::TENTHS as i32;
 // The most smoothing: 2^40.

@@ -19,7 +19,8 @@ use Rattle.series.proofs.OptimalityLaws.{line-meets, meets-line}
 use Rattle.series.proofs.Refusals.{never, if-past, same-given, passed}
 use Rattle.layout.specs.Answer.{fields}
 use Rattle.layout.specs.Format.{minutes, segment-count, smoothing, samples, lengths, totals, read-sample, read-length, read-total}
-use Rattle.layout.specs.HeadLaws.{InOrder, or-false}
+use Rattle.level.proofs.LimitsLaws.{or-false}
+use Rattle.layout.specs.HeadLaws.{InOrder}
 use Rattle.layout.specs.HeadLaws as HeadLaws
 use Rattle.layout.specs.ListLaws.{length-records}
 use Rattle.sheet.specs.Read.{filed, accepted, readOf, samplesAfter, lengthsAfter, totalsAfter}

@@ -12,7 +12,6 @@ ghost use Rattle.layout.specs.HeadLaws.{InOrder};
 ghost use Rattle.sheet.specs.Read.{filed};
 ghost use Rattle.sheet.specs.Write.{written};
 ghost use Rattle.sheet.specs.Complete.{completeOf, completedAfter, Has};
-use super::DAY;
 use super::Written;
 use super::checking;
 use super::writer;
@@ -20,6 +19,7 @@ use denoise::Drawn;
 use layout::Fields;
 use layout::inner::decode;
 use series::Checked;
+use series::DAY;
 use series::MINUTES;
 
 // With a header in order, of a sheet of up to a day.

@@ -13,14 +13,12 @@ ghost use Rattle.sheet.specs.Complete.{completeOf, completedAfter};
 use layout::Reading;
 use layout::header;
 use series::Checked;
+use series::DAY;
 
 mod checking;
 mod completing;
 mod reader;
 mod writer;
-
-// The minutes of a day: a sheet of no more is read and completed in little memory.
-pub(crate) const DAY: usize = 1_440;
 
 // The number of bytes written.
 pub enum Written {

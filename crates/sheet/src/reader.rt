@@ -7,15 +7,15 @@ ghost use Rattle.series.specs.Answer.{refill, on-success};
 ghost use Rattle.layout.specs.Answer.{fields, headed};
 ghost use Rattle.layout.specs.HeadLaws.{InOrder};
 ghost use Rattle.sheet.specs.Read.{filed, with-room, readOf, samplesAfter, lengthsAfter, totalsAfter};
-use super::DAY;
 use super::checking;
 use layout::Fields;
 use layout::Reading;
-use layout::inner::copy_samples;
-use layout::inner::copy_segments;
 use layout::inner::decode;
 use series::Checked;
+use series::DAY;
 use series::MINUTES;
+use series::inner::copy_samples;
+use series::inner::copy_segments;
 
 // With a header in order, of a sheet of up to a day.
 pub(crate) fn read_small(

@@ -1,4 +1,4 @@
--- `layout::inner::copy_samples` meets its contract: after i turns the first i samples stand in `out`.
+-- `series::inner::copy_samples` meets its contract: after i turns the first i samples stand in `out`.
 use mathlib.Core.Path.{refl}
 use Prim.Native.Nat.{_-_, _≤_}
 use native.Mathlib.Omega.{arith}
@@ -7,9 +7,9 @@ use mir.Syntax.{w32}
 use mir.Facts.{toZ-ofZ}
 use lib.IntN.{pos}
 use lib.ListN.{length}
-use Rattle.layout.proofs.ListLoop.{Copied, copied-more, copied-all}
-use Rattle.layout.proofs.inner.copy_samples.Statement.{statement}
-use Rattle.layout.proofs.inner.copy_samples.Tie as tie
+use Rattle.series.proofs.ListLoop.{Copied, copied-more, copied-all}
+use Rattle.series.proofs.inner.copy_samples.Statement.{statement}
+use Rattle.series.proofs.inner.copy_samples.Tie as tie
 
 abbrev Inv-loop : tie.InvT-loop
 Inv-loop samples out₀ i₀ out i = (i ≤ length samples) × Copied out₀ samples i out

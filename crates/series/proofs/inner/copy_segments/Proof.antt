@@ -1,4 +1,4 @@
--- `layout::inner::copy_segments` meets its contract: after i turns the first i segments stand in the two lists.
+-- `series::inner::copy_segments` meets its contract: after i turns the first i segments stand in the two lists.
 use mathlib.Core.Path.{refl}
 use Prim.Native.Nat.{_-_, _≤_}
 use native.Mathlib.Omega.{arith}
@@ -7,9 +7,9 @@ use mir.Syntax.{w64}
 use mir.Facts.{toZ-ofZ}
 use lib.IntN.{pos}
 use lib.ListN.{length}
-use Rattle.layout.proofs.ListLoop.{Copied, copied-more, copied-all}
-use Rattle.layout.proofs.inner.copy_segments.Statement.{statement}
-use Rattle.layout.proofs.inner.copy_segments.Tie as tie
+use Rattle.series.proofs.ListLoop.{Copied, copied-more, copied-all}
+use Rattle.series.proofs.inner.copy_segments.Statement.{statement}
+use Rattle.series.proofs.inner.copy_segments.Tie as tie
 
 abbrev Inv-loop : tie.InvT-loop
 Inv-loop ns ts lengths₀ totals₀ i₀ lengths totals i = (i ≤ length ns) × Copied lengths₀ ns i lengths × Copied totals₀ ts i totals
