@@ -1,76 +1,22 @@
-/* Measures the line beside the same exact steps in C from two compilers, an exact taut string and Condat's floating-point code, on the same
- * samples; then whole sheets, and charts of their lines, beside a copy of the sheets' bytes. Prints nanoseconds a minute, the best of several rounds,
- * and ours over each. The lines of the exact methods, and the results on sheets and of charts, are first compared; a difference ends the run. */
-#define _POSIX_C_SOURCE 199309L
-#include <inttypes.h>
+/* Measures the line by the ten steps (ours) and in linear time (fast) beside the same exact steps in C from two compilers, an exact taut string and Condat's
+ * floating-point code, on the same samples; looks for the series on which fast takes longest; then whole sheets, and charts of their lines, beside a copy of
+ * the sheets' bytes. Prints nanoseconds a minute, the best of several rounds, and ours over each. The lines of the exact methods, and the results on sheets
+ * and of charts, are first compared; a difference ends the run. */
 #include <stdio.h>
-#include <stdlib.h>
 #include <string.h>
-#include <time.h>
 
 #include <dawhikura.h>
 #include "../tests/reference.h"
-#include "../tests/random.h"
 #include "baselines.h"
-
-static int32_t y[MOST];
-static size_t n;
-static uint64_t lambda;
-static Line line; /* ours, of the samples and smoothing above */
-
-static double now(void)
-{
-    struct timespec t;
-    clock_gettime(CLOCK_MONOTONIC, &t);
-    return (double)t.tv_sec * 1e9 + (double)t.tv_nsec;
-}
-
-/* The best time of each of `count` tasks, in ns: they take turns for half a second, each at least once and at most 1,000 times. A turn on a short series
- * is many calls, since the clock takes time too. `judge` sees each result of the first turn. */
-static void measure(int count, int64_t (*task)(int), void (*judge)(int, int64_t), double *best)
-{
-    double end = now() + 5e8;
-    size_t calls = n < 1440 ? 1440 / n : 1;
-    for (int round = 0; round == 0 || (round < 1000 && now() < end); round++)
-        for (int i = 0; i < count; i++) {
-            int64_t r = 0;
-            double t = now();
-            for (size_t c = 0; c < calls; c++)
-                r = task(i);
-            t = (now() - t) / (double)calls;
-            if (round == 0)
-                judge(i, r);
-            if (round == 0 || t < best[i])
-                best[i] = t;
-        }
-}
-
-static void differ(const char *what)
-{
-    printf("%s: another result, %zu minutes, smoothing %" PRIu64 "\n", what, n, lambda);
-    exit(1);
-}
-
-static void print_name(const char *name)
-{
-    printf("%-15s %7zu %8zu", name, n, line.n);
-}
-
-static void print_time(double ns)
-{
-    double each = ns / (double)n;
-    printf(" %6.*f", each < 1000 ? 2 : 0, each);
-}
-
-static void print_ratio(double over)
-{
-    printf(" %6.*f", over < 100 ? 2 : 0, over);
-}
+#include "inputs.h"
+#include "measure.h"
+#include "search.h"
 
 /* ---- lines */
 /* the kit's clang is left out where it is not at hand */
 enum {
     OURS,
+    FAST,
 #ifndef NO_CLANG
     CLANG,
 #endif
@@ -82,6 +28,7 @@ enum {
 
 static const char *const columns[] = {
     "ours",
+    "fast",
 #ifndef NO_CLANG
     "clang",
 #endif
@@ -97,6 +44,7 @@ static int64_t draw(int method)
 {
     switch (method) {
     case OURS: return dawhikura_series_line(y, n, lambda, line.length, n, line.total, n);
+    case FAST: return dawhikura_series_line_fast(y, n, lambda, other.length, n, other.total, n);
 #ifndef NO_CLANG
     case CLANG: return (int64_t)steps_clang(y, n, (int64_t)lambda, other.length, other.total);
 #endif
@@ -119,18 +67,20 @@ static int near(void)
     return 1;
 }
 
+/* ours is compared with the taut string, the others with ours */
 static void judge_line(int method, int64_t m)
 {
-    if (method == OURS)
+    if (method == OURS) {
         line.n = (size_t)m;
-    else
+        reference_line_long(y, n, lambda, &other);
+    } else
         other.n = (size_t)m;
-    if (method != OURS && !(method == CONDAT ? near() : same_line(&line, &other)))
+    if (!(method == CONDAT ? near() : same_line(&line, &other)))
         differ(columns[method]);
 }
 
-/* by the first `methods` of the methods */
-static void line_row(const char *name, int methods)
+/* by the first `methods` of the methods; the time of fast */
+static double line_row(const char *name, int methods)
 {
     double best[METHODS];
     for (size_t i = 0; i < n; i++)
@@ -144,10 +94,14 @@ static void line_row(const char *name, int methods)
         print_ratio(best[OURS] / best[i]);
     printf("\n");
     fflush(stdout);
+    return best[FAST];
 }
 
 /* ---- whole sheets, and charts of their lines */
-enum { COPY, DRAW, BALANCES, CHECK, COMPLETE, CONFIRM, READ, WRITE, CHART, MARK, TASKS };
+enum { COPY, DRAW, DRAW_FAST, BALANCES, CHECK, COMPLETE, CONFIRM, READ, WRITE, CHART, MARK, TASKS };
+
+/* those that are measured; the first two are what the others are told over */
+static const int *tasks;
 
 static uint8_t bare[SHEET], whole[SHEET], out[SHEET];
 static size_t bare_size, whole_size;
@@ -157,11 +111,12 @@ static uint64_t fields[3];
 static uint32_t firsts[MOST], lasts[MOST];
 static double levels[MOST], mark[2];
 
-static int64_t handle(int task)
+static int64_t handle(int i)
 {
-    switch (task) {
+    switch (tasks[i]) {
     case COPY: memcpy(out, whole, whole_size); return (int64_t)whole_size;
     case DRAW: return draw(OURS);
+    case DRAW_FAST: return draw(FAST);
     case BALANCES: return dawhikura_series_balances(y, n, lambda, duals, n);
     case CHECK: return dawhikura_series_check(y, n, lambda, line.length, line.n, line.total, line.n);
     case COMPLETE: return dawhikura_sheet_complete(bare, bare_size, out, whole_size);
@@ -173,7 +128,7 @@ static int64_t handle(int task)
     }
 }
 
-static const char *const names[] = {"copy", "line", "balances", "check", "complete", "complete, filed", "read", "write", "chart", "last mark"};
+static const char *const names[] = {"copy", "line", "line, fast", "balances", "check", "complete", "complete, filed", "read", "write", "chart", "last mark"};
 
 static int balanced(void)
 {
@@ -208,6 +163,9 @@ static int right(int task, int64_t r)
     double level[2];
     switch (task) {
     case DRAW: return r == (int64_t)line.n;
+    case DRAW_FAST:
+        other.n = (size_t)r;
+        return same_line(&other, &line);
     case BALANCES: return r == (int64_t)n && balanced();
     case CHECK: return r == 0;
     case READ:
@@ -219,74 +177,69 @@ static int right(int task, int64_t r)
     }
 }
 
-static void judge_sheet(int task, int64_t r)
+static void judge_sheet(int i, int64_t r)
 {
-    if (!right(task, r))
-        differ(names[task]);
+    if (!right(tasks[i], r))
+        differ(names[tasks[i]]);
     memset(out, 0, sizeof out);
 }
 
-/* `line` holds the line of the samples */
-static void sheet_rows(void)
+static void print_sheet_columns(const char *title, const char *line_name)
+{
+    printf("\n%-32s %-14s ours over\n", title, "ns a minute");
+    printf("task            minutes segments   ours memcpy  memcpy %6s\n", line_name);
+}
+
+/* so many of the tasks */
+static void sheet_rows(const int *these, int count)
 {
     double best[TASKS];
+    tasks = these;
+    reference_line_long(y, n, lambda, &line);
     bare_size = reference_sheet(bare, y, n, lambda, NULL);
     whole_size = reference_sheet(whole, y, n, lambda, &line);
-    measure(TASKS, handle, judge_sheet, best);
-    for (int i = DRAW; i < TASKS; i++) {
-        print_name(names[i]);
+    measure(count, handle, judge_sheet, best);
+    for (int i = 1; i < count; i++) {
+        print_name(names[tasks[i]]);
         print_time(best[i]);
-        print_time(best[COPY]);
+        print_time(best[0]);
         printf(" ");
-        print_ratio(best[i] / best[COPY]);
-        print_ratio(best[i] / best[DRAW]);
+        print_ratio(best[i] / best[0]);
+        print_ratio(best[i] / best[1]);
         printf("\n");
     }
 }
 
-/* ---- the inputs */
-static void noise(uint64_t smoothing)
-{
-    uint64_t state = 2013;
-    for (size_t i = 0; i < n; i++)
-        y[i] = (int32_t)(i * 12 / n % 5) * 300 + (int32_t)(next_number(&state) % 401) - 200;
-    lambda = smoothing;
-}
-
-/* One minute is cut off at a time, each after a scan of 2 * sqrt(lambda / slope) minutes; the first and the last segment have
- * sqrt(2 * lambda / slope) minutes each. The scans are longest in sum where lambda is slope * n * n / 32: 0.17 * n * n minutes, for any slope. */
-static void ramp(void)
-{
-    for (size_t i = 0; i < n; i++)
-        y[i] = (int32_t)(256 * i) - LIMIT / 2;
-    lambda = 256 * (uint64_t)(n * n / 32);
-}
-
-/* A few minutes at the lower limit, a ramp, a few minutes at the upper limit: now each scan runs to the end before it cuts off one minute, nearly
- * n * n / 2 minutes in all. No series takes more, as each scan cuts off at least the minute that it starts at. */
-static void worst(void)
-{
-    size_t few = n / 512;
-    for (size_t i = 0; i < n; i++)
-        y[i] = i < few ? -LIMIT : i >= n - few ? LIMIT : (int32_t)i;
-    lambda = (uint64_t)(n * n / 4);
-}
-
-static void noise_rows(void)
+/* ---- the rows */
+static double noise_rows(void)
 {
     noise((uint64_t)1 << 40);
     line_row("noise, L = 2^40", METHODS);
+    if (n == MOST) {
+        noise(100000);
+        line_row("noise, L = 10^5", METHODS);
+    }
     noise(5000);
     line_row("noise, L = 5000", METHODS);
     noise(100);
-    line_row("noise, L = 100", METHODS);
+    return line_row("noise, L = 100", METHODS);
+}
+
+static void walk_rows(void)
+{
+    walk(1000);
+    line_row("walk, L = 10^3", METHODS);
+    walk(100000);
+    line_row("walk, L = 10^5", METHODS);
+    walk(10000000);
+    line_row("walk, L = 10^7", METHODS);
 }
 
 static void ramp_rows(void)
 {
     ramp();
     line_row("ramp", METHODS);
-    worst();
+    worst_ramp();
     line_row("worst ramp", n == 1440 ? METHODS : CC); /* to save time */
 }
 
@@ -302,25 +255,36 @@ static void print_columns(void)
     printf("\n");
 }
 
+static void all_sheet_rows(void)
+{
+    static const size_t sizes[] = {60, 44640, MOST};
+    static const int all[] = {COPY, DRAW, DRAW_FAST, BALANCES, CHECK, COMPLETE, CONFIRM, READ, WRITE, CHART, MARK}, linear[] = {COPY, DRAW_FAST, COMPLETE};
+    print_sheet_columns("whole sheets, noise, L = 100", "line");
+    for (int s = 0; s < 3; s++) {
+        n = sizes[s];
+        noise(100);
+        sheet_rows(all, TASKS);
+    }
+    print_sheet_columns("whole sheets, worst ramp", "fast");
+    worst_ramp();
+    sheet_rows(linear, 3);
+}
+
 int main(void)
 {
-    static const size_t sizes[] = {1440, 44640, MOST}, sheets[] = {60, 44640, MOST};
+    static const size_t sizes[] = {1440, 44640, MOST};
+    double noise_time = 0;
     print_columns();
     for (int s = 0; s < 3; s++) {
         n = sizes[s];
-        noise_rows();
+        noise_time = noise_rows();
     }
+    walk_rows();
     for (int s = 0; s < 3; s++) {
         n = sizes[s];
         ramp_rows();
     }
-    printf("\n%-32s %-14s ours over\n", "whole sheets, noise, L = 100", "ns a minute");
-    printf("task            minutes segments   ours memcpy  memcpy   line\n");
-    for (int s = 0; s < 3; s++) {
-        n = sheets[s];
-        noise(100);
-        line.n = (size_t)draw(OURS);
-        sheet_rows();
-    }
+    search_rows(noise_time);
+    all_sheet_rows();
     return 0;
 }

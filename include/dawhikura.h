@@ -7,9 +7,12 @@
  * No call allocates or keeps anything for later, so calls are reentrant and thread-safe: any number of them may run at once, on the same inputs too, as
  * long as nothing else uses an area that a call writes, or writes one that it reads, until that call returns.
  *
- * Stack: dawhikura_sheet_read and dawhikura_sheet_complete need 1 MiB and 16 KiB for the sheet's lists, however short the sheet; every other call needs
- * 16 KiB. Drawing a line takes some 8 ns a minute (README, "Speed"), but is quadratic on some series: a ramp of 65,536 minutes took up to seven seconds.
- * Checking, reading and writing are linear.
+ * Stack: dawhikura_sheet_read and dawhikura_sheet_complete need 1 MiB and 16 KiB for lists of their own, dawhikura_series_line_fast 768 KiB and 16 KiB, however
+ * short the sheet or the series; every other call needs 16 KiB.
+ *
+ * Time: dawhikura_sheet_complete and dawhikura_series_line_fast are linear on every input, as reading, writing, checking and charts are: some 7 ns a minute
+ * of noise, and up to 22 on the worst series found (README, "Speed"). dawhikura_series_line and dawhikura_series_balances, which need no lists of their own, are
+ * as fast on noise but quadratic on some series: a ramp of 65,536 minutes takes up to seven seconds.
  *
  * A result below 0 is a refusal: minus (256 times the place, plus the number), so that for r < 0 the number is -r % 256 and the place -r / 256. A place is
  * at most 65,536, or at most the count of segments handed over; in a list of more than 2^54 segments a place above 2^54 is told as 2^54.
@@ -39,6 +42,10 @@ extern "C" {
  * samples. Refusals 1, 2, 4, 3, 5. */
 int64_t dawhikura_series_line(const int32_t *samples, size_t minutes, uint64_t smoothing, uint32_t *lengths, size_t lengths_len, int64_t *totals,
                               size_t totals_len);
+
+/* The same line, refusals and kept entries, in linear time on every series: for samples that come from strangers. */
+int64_t dawhikura_series_line_fast(const int32_t *samples, size_t minutes, uint64_t smoothing, uint32_t *lengths, size_t lengths_len, int64_t *totals,
+                                   size_t totals_len);
 
 /* The balance after each minute, times the length of the segment that holds it. The first entries of the list are the balances, one a sample; the
  * result is their number. The list needs as many entries as there are samples. Refusals 1, 2, 4, 3, 5. */

@@ -12,10 +12,11 @@
 
 #include <dawhikura.h>
 #include "harness.h"
+#include "hostile.h"
 #include "random.h"
 
-/* the stack that the header names, for reading and completing sheets and for the other calls */
-enum { SHEET_STACK = (1 << 20) + 16384, LIST_STACK = 16384 };
+/* the stack that the header names: for reading and completing sheets, for the line in linear time, and for the other calls */
+enum { SHEET_STACK = (1 << 20) + 16384, FAST_STACK = (768 << 10) + 16384, LIST_STACK = 16384 };
 
 static void answers(const char *call, i64 got, i64 want)
 {
@@ -30,20 +31,38 @@ static dawhikura_segment records[MOST];
 static uint8_t whole[SHEET], bare[SHEET];
 static size_t whole_size, bare_size;
 
+/* worst ramps, which the ten steps do not draw in linear time: of the longest series and of a day */
+static struct {
+    size_t n;
+    int32_t y[MOST];
+    uint64_t lambda;
+    Line line;
+    uint8_t whole[SHEET], bare[SHEET];
+    size_t whole_size, bare_size;
+} ramps[2];
+
+/* what a call that draws a line fills */
 typedef struct {
-    i64 results[11];
-    uint32_t lengths[MOST], firsts[MOST], lasts[MOST], lengths_read[MOST];
-    i64 totals[MOST], balances[MOST], totals_read[MOST];
+    uint32_t lengths[MOST];
+    i64 totals[MOST];
+} Drawn;
+
+enum { RESULTS = 16 };
+typedef struct {
+    i64 results[RESULTS];
+    Drawn drawn, fast, fast_ramp[2];
+    uint32_t firsts[MOST], lasts[MOST], lengths_read[MOST];
+    i64 balances[MOST], totals_read[MOST];
     double levels[MOST], mark[2];
     int32_t samples_read[MOST];
     uint64_t fields[3], few[2];
-    uint8_t written[SHEET], completed[SHEET], confirmed[SHEET];
+    uint8_t written[SHEET], completed[SHEET], confirmed[SHEET], ramp_completed[2][SHEET];
 } Run;
 
 static void list_calls(Run *r)
 {
     size_t m = line.n;
-    r->results[0] = dawhikura_series_line(y, MOST, 50, r->lengths, MOST, r->totals, MOST);
+    r->results[0] = dawhikura_series_line(y, MOST, 50, r->drawn.lengths, MOST, r->drawn.totals, MOST);
     r->results[1] = dawhikura_series_balances(y, MOST, 50, r->balances, MOST);
     r->results[2] = dawhikura_series_check(y, MOST, 50, line.length, m, line.total, m);
     r->results[3] = dawhikura_series_check_segments(y, MOST, 50, records, m);
@@ -59,14 +78,44 @@ static void sheet_calls(Run *r)
     r->results[8] = dawhikura_sheet_read(whole, whole_size, r->samples_read, MOST, r->lengths_read, MOST, r->totals_read, MOST, r->few, 2);
     r->results[9] = dawhikura_sheet_complete(whole, whole_size, r->confirmed, SHEET);
     r->results[10] = dawhikura_sheet_complete(bare, bare_size, r->completed, SHEET);
+    for (int i = 0; i < 2; i++)
+        r->results[14 + i] = dawhikura_sheet_complete(ramps[i].bare, ramps[i].bare_size, r->ramp_completed[i], SHEET);
+}
+
+/* the line in linear time, of noise and of the ramps */
+static void fast_calls(Run *r)
+{
+    r->results[11] = dawhikura_series_line_fast(y, MOST, 50, r->fast.lengths, MOST, r->fast.totals, MOST);
+    for (int i = 0; i < 2; i++) {
+        size_t n = ramps[i].n;
+        r->results[12 + i] = dawhikura_series_line_fast(ramps[i].y, n, ramps[i].lambda, r->fast_ramp[i].lengths, n, r->fast_ramp[i].totals, n);
+    }
 }
 
 /* a run on the stack of the test, for the others to be compared with */
 static Run first;
 
+static void draw_ramps(uint64_t *state)
+{
+    for (int i = 0; i < 2; i++) {
+        size_t n = ramps[i].n = i == 0 ? MOST : 1440;
+        ramps[i].lambda = (uint64_t)n * n / 4;
+        hostile_series(state, &(Hostile){WORST_RAMP, (int32_t)n / 2, 1, 0}, ramps[i].y, n);
+        reference_line_long(ramps[i].y, n, ramps[i].lambda, &ramps[i].line);
+        ramps[i].whole_size = reference_sheet(ramps[i].whole, ramps[i].y, n, ramps[i].lambda, &ramps[i].line);
+        ramps[i].bare_size = reference_sheet(ramps[i].bare, ramps[i].y, n, ramps[i].lambda, NULL);
+    }
+}
+
+static int other_line(const Drawn *d, const Line *l)
+{
+    return memcmp(d->lengths, l->length, 4 * l->n) || memcmp(d->totals, l->total, 8 * l->n);
+}
+
 static void begin(void)
 {
     uint64_t state = 12345;
+    draw_ramps(&state);
     for (size_t i = 0; i < MOST; i++)
         y[i] = random_sample(&state, 1);
     reference_line_long(y, MOST, 50, &line);
@@ -78,12 +127,18 @@ static void begin(void)
     bare_size = reference_sheet(bare, y, MOST, 50, NULL);
     list_calls(&first);
     sheet_calls(&first);
+    fast_calls(&first);
     double mark[2];
     i64 m = (i64)line.n, size = (i64)whole_size, kind = reference_mark(MOST, line.length, line.n, line.total, line.n, MOST, mark);
-    i64 want[] = {m, MOST, 0, 0, m, kind, size, m, refusal(5, 0), size, size};
-    for (int i = 0; i < 11; i++)
+    i64 want[RESULTS] = {m, MOST, 0, 0, m, kind, size, m, refusal(5, 0), size, size, m, (i64)ramps[0].line.n, (i64)ramps[1].line.n,
+                         (i64)ramps[0].whole_size, (i64)ramps[1].whole_size};
+    for (int i = 0; i < RESULTS; i++)
         answers("a run", first.results[i], want[i]);
-    answers("a run's line", memcmp(first.lengths, line.length, 4 * line.n) || memcmp(first.totals, line.total, 8 * line.n), 0);
+    answers("a run's line", other_line(&first.drawn, &line) || other_line(&first.fast, &line), 0);
+    for (int i = 0; i < 2; i++) {
+        answers("a run's ramp", other_line(&first.fast_ramp[i], &ramps[i].line), 0);
+        answers("a run's ramp, completed", memcmp(first.ramp_completed[i], ramps[i].whole, ramps[i].whole_size), 0);
+    }
     answers("a run's mark", memcmp(first.mark, mark, sizeof mark), 0);
     answers("a run's samples", memcmp(first.samples_read, y, sizeof y), 0);
     answers("a run's line, read", memcmp(first.lengths_read, line.length, 4 * line.n) || memcmp(first.totals_read, line.total, 8 * line.n), 0);
@@ -111,6 +166,12 @@ static void nothing(void)
     answers("dawhikura_series_line, no lengths", dawhikura_series_line(s, 2, 1, NULL, 0, u, 2), few);
     answers("dawhikura_series_line, no totals", dawhikura_series_line(s, 2, 1, a, 2, NULL, 0), few);
     answers("dawhikura_series_line, nothing", dawhikura_series_line(NULL, 0, 1, NULL, 0, NULL, 0), none);
+
+    answers("dawhikura_series_line_fast", dawhikura_series_line_fast(s, 2, 1, a, 2, u, 2), 2);
+    answers("dawhikura_series_line_fast, no samples", dawhikura_series_line_fast(NULL, 0, 1, a, 2, u, 2), none);
+    answers("dawhikura_series_line_fast, no lengths", dawhikura_series_line_fast(s, 2, 1, NULL, 0, u, 2), few);
+    answers("dawhikura_series_line_fast, no totals", dawhikura_series_line_fast(s, 2, 1, a, 2, NULL, 0), few);
+    answers("dawhikura_series_line_fast, nothing", dawhikura_series_line_fast(NULL, 0, 1, NULL, 0, NULL, 0), none);
 
     answers("dawhikura_series_balances", dawhikura_series_balances(s, 2, 1, u, 2), 2);
     answers("dawhikura_series_balances, no samples", dawhikura_series_balances(NULL, 0, 1, u, 2), none);
@@ -179,6 +240,11 @@ static void sheets_there(void)
     sheet_calls(&small);
 }
 
+static void fast_there(void)
+{
+    fast_calls(&small);
+}
+
 /* with nothing below it for as far as a call may reach */
 static void on_stack(size_t bytes, void (*calls)(void))
 {
@@ -201,6 +267,7 @@ static void stacks(void)
 {
     on_stack(LIST_STACK, lists_there);
     on_stack(SHEET_STACK, sheets_there);
+    on_stack(FAST_STACK, fast_there);
     answers("a run on the stack that the header names", memcmp(&small, &first, sizeof small), 0);
 }
 
@@ -216,6 +283,7 @@ static void *rounds(void *run)
         memset(run, 0, sizeof(Run));
         pthread_barrier_wait(&all_there);
         sheet_calls(run);
+        fast_calls(run);
         list_calls(run);
         if (memcmp(run, &first, sizeof first))
             other = run;

@@ -42,7 +42,8 @@ const void *hand(const void *entries, size_t bytes);
 void expect(int i, const void *entries, size_t bytes);
 
 /* ---- the judgement */
-/* that the call's result and areas are what they must be; the areas are given back. Returns the result */
+/* that the call's result and areas are what they must be, and that it took less than a second of the processor's time since its first area was lent (not asked
+ * with a guard of 0, since valgrind is slow); the areas are given back. Returns the result */
 i64 judge(i64 want, i64 got);
 
 /* that a call, just compared with the other implementation, got what is written by hand */

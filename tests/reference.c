@@ -336,6 +336,40 @@ step_3:
     set_level(out, step, k0, N, plus(v_min, over(u_min, k - k0 + 1)), 10);
 }
 
+/* ---- the minutes that the ten steps look at */
+size_t reference_scan(const int32_t *y, size_t n, uint64_t smoothing, i64 u)
+{
+    i64 lambda = (i64)smoothing;
+    i64 low = 0, high = 0, low_n = 0, high_n = 0;
+    for (size_t k = 0; k < n; k++) {
+        i64 count = (i64)k + 1;
+        u += y[k];
+        if (k == 0 || (u - lambda) * low_n >= low * count) {
+            low = u - lambda;
+            low_n = count;
+        }
+        if (k == 0 || (u + lambda) * high_n <= high * count) {
+            high = u + lambda;
+            high_n = count;
+        }
+        if (low * high_n > high * low_n)
+            return k + 1;
+    }
+    return n;
+}
+
+size_t reference_looked(const int32_t *y, size_t n, uint64_t lambda, const Line *line, size_t most)
+{
+    size_t looked = 0, first = 0;
+    i64 u = 0;
+    for (size_t s = 0; s < line->n && looked <= most; s++) {
+        looked += reference_scan(y + first, n - first, lambda, u);
+        for (uint32_t i = 0; i < line->length[s]; i++)
+            u += y[first++];
+        u -= line->total[s];
+    }
+    return looked;
+}
 
 const Known known_lines[KNOWN] = {
     {1, {7}, 0, 1, {1}, {7}},

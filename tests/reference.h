@@ -43,6 +43,13 @@ void reference_line_long(const int32_t *y, size_t n, uint64_t lambda, Line *out)
 /* the line of any series, by the ten steps as Condat 2013 prints them, in exact fractions; and the number of the step that set each segment */
 void reference_line_printed(const int32_t *y, size_t n, uint64_t lambda, Line *out, int *step);
 
+/* how many minutes the ten steps look at from the start of a segment, where the balance is u: up to the first after which no level keeps the balance from
+ * -lambda to lambda, or to the end */
+size_t reference_scan(const int32_t *y, size_t n, uint64_t lambda, i64 u);
+
+/* how many they look at while they draw this line, the line of the series; counted to `most`, then any number above it */
+size_t reference_looked(const int32_t *y, size_t n, uint64_t lambda, const Line *line, size_t most);
+
 /* the known lines of RULES 2.6 */
 enum { KNOWN = 13 };
 typedef struct {

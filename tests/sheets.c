@@ -1,5 +1,6 @@
 /* Completes sheets through the C entry and compares result, every output byte and untouched memory with another implementation of
- * docs/RULES.md: sheets without a line, with their line, damaged in a bit, a field, a segment or their length, outputs exact, too short and too long.
+ * docs/RULES.md: sheets without a line, with their line, damaged in a bit, a field, a segment or their length, outputs exact, too short and too long; and
+ * sheets on whose samples the ten steps take long.
  *
  *     sheets [COUNT [GUARD]]      COUNT random sheets (default 200000), then long ones
  *
@@ -11,6 +12,7 @@
 
 #include <dawhikura.h>
 #include "harness.h"
+#include "hostile.h"
 #include "random.h"
 
 /* ---- the comparison */
@@ -94,6 +96,32 @@ static void long_sheets(void)
     compare(sheet, 32 + 4 * (MOST + 1), SHEET);
 }
 
+/* ---- hostile sheets, on whose samples the ten steps look at many minutes again and again: of every shape, and the worst ramp turned every way */
+static void hostile_sheet(const int32_t *y, size_t n, uint64_t lambda)
+{
+    sheets++;
+    compare_rooms(sheet, reference_sheet(sheet, y, n, lambda, NULL));
+}
+
+static void hostile_sheets(void)
+{
+    static int32_t y[MOST];
+    static const size_t sizes[] = {1440, 1441, MOST};
+    for (int a = 0; a < 3; a++) {
+        size_t n = sizes[a];
+        for (int shape = 0; shape < SHAPES; shape++)
+            for (int magnitude = shape % 4; magnitude < MAGNITUDES; magnitude += guard ? 4 : 20) {
+                start(seed + 1);
+                random_hostile(&state, shape, y, n);
+                hostile_sheet(y, n, random_smoothing(&state, magnitude));
+            }
+        for (int turned = 0; turned < (guard ? 4 : 1); turned++) {
+            hostile_series(&state, &(Hostile){WORST_RAMP, (int32_t)n / 2, 1, turned}, y, n);
+            hostile_sheet(y, n, (uint64_t)n * n / 4);
+        }
+    }
+}
+
 int main(int argc, char **argv)
 {
     unsigned long count = arguments(argc, argv, 200000);
@@ -102,6 +130,7 @@ int main(int argc, char **argv)
         random_one();
     }
     long_sheets();
+    hostile_sheets();
     printf("sheets %lu calls %lu completed %lu", sheets, calls, completed);
     print_agreed();
     return 0;

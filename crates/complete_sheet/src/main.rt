@@ -13,7 +13,6 @@ ghost use Rattle.sheet.specs.Read.{readOf};
 ghost use Rattle.io.specs.Counts.{Counts};
 ghost use Rattle.complete_sheet.specs.Ready.{Ready};
 ghost use Rattle.complete_sheet.specs.Report.{row, rows, heading, line-text, line-shown, refusal, answer-text, reportOf};
-use denoise::Drawn;
 use layout::Fields;
 use layout::Reading;
 
@@ -150,10 +149,7 @@ fn draw(f: Fields, samples: &[i32], lengths: &mut [u32], totals: &mut [i64]) -> 
     if f.segments > 0 {
         return f.segments as usize;
     }
-    match denoise::line(samples, f.smoothing, lengths, totals) {
-        Drawn::Segments(m) => m as usize,
-        Drawn::Refused(number, place) => 0,
-    }
+    fast::inner::draw(samples, f.smoothing, lengths, totals) as usize
 }
 
 // With lists that are accepted.

@@ -2,10 +2,10 @@
 
 ghost use mathlib.Core.Path.{_≡_};
 ghost use mathlib.Core.List.{[], _∷_};
-ghost use Prim.Native.Nat.{_≤_, min};
+ghost use Prim.Native.Nat.{ℕ, _≤_, min};
 ghost use lib.IntN.{pos};
 ghost use lib.ListN.{length};
-ghost use Rattle.denoise.specs.Line.{lineOf, lengthsOf, totalsOf};
+ghost use Rattle.denoise.specs.Line.{drawn, lineOf, lengthsOf, totalsOf};
 ghost use Rattle.denoise.specs.Dual.{balancesOf, balancesAfter};
 ghost use Rattle.series.specs.Answer.{checked, refill, on-success};
 ghost use Rattle.checker.specs.Check.{checkOf};
@@ -53,6 +53,17 @@ pub fn verdict(c: Checked) -> i64
     }
 }
 
+// The result of a drawing: the number of segments.
+fn segments(d: Drawn) -> i64
+    requires { ⌜ ((number place : ℕ) → drawn d ≡ refused number place → place ≤ farthest) ⌝ }
+    ensures { λ r. ⌜ r ≡ code (drawn d) ⌝ }
+{
+    match d {
+        Drawn::Segments(m) => m as i64,
+        Drawn::Refused(number, place) => refusal(number, place),
+    }
+}
+
 #[no_mangle]
 pub extern "C" fn dawhikura_series_line(
     samples: &[i32],
@@ -64,10 +75,22 @@ pub extern "C" fn dawhikura_series_line(
     ensures lengths { λ r. ⌜ now (lengths .exit) ≡ lengthsOf (now (samples .entry)) smoothing (now (lengths .entry)) (now (totals .entry)) ⌝ }
     ensures totals { λ r. ⌜ now (totals .exit) ≡ totalsOf (now (samples .entry)) smoothing (now (lengths .entry)) (now (totals .entry)) ⌝ }
 {
-    match denoise::line(samples, smoothing, lengths, totals) {
-        Drawn::Segments(m) => m as i64,
-        Drawn::Refused(number, place) => refusal(number, place),
-    }
+    segments(denoise::line(samples, smoothing, lengths, totals))
+}
+
+// The same, linear in time on every series.
+#[no_mangle]
+pub extern "C" fn dawhikura_series_line_fast(
+    samples: &[i32],
+    smoothing: u64,
+    lengths: &mut [u32],
+    totals: &mut [i64],
+) -> i64
+    ensures answer { λ r. ⌜ r ≡ code (lineOf (now (samples .entry)) smoothing (now (lengths .entry)) (now (totals .entry))) ⌝ }
+    ensures lengths { λ r. ⌜ now (lengths .exit) ≡ lengthsOf (now (samples .entry)) smoothing (now (lengths .entry)) (now (totals .entry)) ⌝ }
+    ensures totals { λ r. ⌜ now (totals .exit) ≡ totalsOf (now (samples .entry)) smoothing (now (lengths .entry)) (now (totals .entry)) ⌝ }
+{
+    segments(fast::line(samples, smoothing, lengths, totals))
 }
 
 #[no_mangle]

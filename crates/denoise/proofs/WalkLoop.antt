@@ -253,7 +253,7 @@ module _ (ys : List ℤ) (smoothing : ℕ) where
         pub room : m ≤ budget + 1
         pub within : (spent ≤ budget) ⊎ ((r .k ≡ length ys) × (r .k ≡ r .k0))
 
-      -- after a segment, written by these two stores
+      -- after a segment was written
       pub record Turned (lengths : List ℕ) (totals : List ℤ) (m spent : ℕ) (r : Variables) : Type 0 where
         pub kept : Kept lengths totals m r
         pub counted : Counted m spent

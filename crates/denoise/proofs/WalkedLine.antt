@@ -1,15 +1,15 @@
 -- What a walk from step 1 leaves in lists with an entry for each minute: the first segments of the line, all of them where it comes to the end.
-use mathlib.Core.Path.{_≡_, sym, _∙_, ap, subst}
+use mathlib.Core.Path.{_≡_, sym, _∙_, ap}
 use mathlib.Core.List.{List, [], _∷_, map}
 use native.Mathlib.Omega.{arith}
 use Prim.Native.Nat.{ℕ, zero, suc, _-_, _<_, _≤_}
 use lib.ListN.{length, take, drop, getD, length-map}
-use lib.Seq.{sets, length-take-le, take-all}
+use lib.Seq.{sets}
 use lib.IntN.{ℤ, pos, _-ℤ_}
 use Rattle.integers.specs.Bounds.{Upto}
-use Rattle.optimality.specs.Series.{plain, Limited}
+use Rattle.optimality.specs.Series.{Limited}
 use Rattle.optimality.specs.Segments.{Segment}
-use Rattle.optimality.specs.Machine.{begin, increments, line, plain-line}
+use Rattle.optimality.specs.Machine.{begin, plain-line}
 use Rattle.optimality.specs.SmallNumbers.{sample-small}
 use Rattle.optimality.specs.Correctness.{plain-few}
 use Rattle.optimality.specs.Remainder.{plain-remainder}
@@ -23,7 +23,6 @@ use Rattle.denoise.specs.declared.walk.Next.{Next}
 use Rattle.denoise.specs.declared.walk.Next.the-variants as Next
 use Rattle.denoise.specs.declared.walk.Walked.{Walked}
 use Rattle.denoise.proofs.VariableLaws.{suc-before, smooth}
-use Rattle.denoise.proofs.WalkSteps.{known}
 use Rattle.denoise.proofs.WalkLoop.{starts}
 
 short-take : {A : Type 0} (m : ℕ) (l : List A) → length (take m l) ≤ length l

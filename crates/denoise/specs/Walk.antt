@@ -5,7 +5,7 @@ use Prim.Native.Nat.{ℕ, _+_, _*_, _<_, _≤_}
 use lib.ListN.{length, drop}
 use lib.IntN.{ℤ, pos}
 use Rattle.optimality.specs.Segments.{Segment}
-use Rattle.optimality.specs.Machine.{Out, on, emit, stop, segment, step}
+use Rattle.optimality.specs.Machine.{Out, on, emit, stop, segment}
 use Rattle.optimality.specs.MachineLaws.{Sound, lines}
 use Rattle.optimality.specs.SmallNumbers as SmallNumbers
 use Rattle.denoise.specs.Variables.{dataOf, stateOf, variablesOf}

@@ -12,29 +12,19 @@ use denoise::inner::Tried;
 use denoise::inner::attempt;
 
 // So many times may the ten steps look at each minute, on average, before the taut string goes on from where they are.
-pub(crate) const PASSES: usize = 2;
+pub(crate) const PASSES: usize = 3;
 
 // The line in the first entries of the two lists, and the number of its segments. Later entries may hold anything.
 pub fn draw(samples: &[i32], smoothing: u64, lengths: &mut [u32], totals: &mut [i64]) -> u32
     requires { ⌜ Limited (now samples) smoothing ⌝ }
     requires { ⌜ length (now samples) ≤ length (now lengths) ⌝ }
     requires { ⌜ length (now samples) ≤ length (now totals) ⌝ }
-    ensures answer { λ m. ⌜ m ≡ length (plain-line (pos smoothing) (now (samples .entry))) ⌝ }
-    ensures lengths { λ m. ⌜ take m (now (lengths .exit)) ≡ line-lengths (plain-line (pos smoothing) (now (samples .entry))) ⌝ }
-    ensures totals { λ m. ⌜ take m (now (totals .exit)) ≡ line-totals (plain-line (pos smoothing) (now (samples .entry))) ⌝ }
+    ensures answer { λ n. ⌜ n ≡ length (plain-line (pos smoothing) (now (samples .entry))) ⌝ }
+    ensures lengths { λ n. ⌜ take n (now (lengths .exit)) ≡ line-lengths (plain-line (pos smoothing) (now (samples .entry))) ⌝ }
+    ensures totals { λ n. ⌜ take n (now (totals .exit)) ≡ line-totals (plain-line (pos smoothing) (now (samples .entry))) ⌝ }
 {
     match attempt(samples, smoothing, PASSES * samples.len(), lengths, totals) {
         Tried::Done(m) => m,
-        Tried::Spent(m, i, u) => {
-            let k = m as usize;
-            m
-                + string::finish(
-                    &samples[i..],
-                    smoothing,
-                    u,
-                    &mut lengths[k..],
-                    &mut totals[k..],
-                )
-        }
+        Tried::Spent(m, i, u) => string::finish(samples, smoothing, m, i, u, lengths, totals),
     }
 }

@@ -4,27 +4,42 @@ ghost use mathlib.Core.Path.{_≡_};
 ghost use Prim.Native.Nat.{_≤_};
 ghost use lib.ListN.{length, take};
 ghost use lib.IntN.{pos};
-ghost use Rattle.integers.specs.Bounds.{Upto};
-ghost use Rattle.optimality.specs.Series.{plain, Limited};
-ghost use Rattle.optimality.specs.Machine.{increments, line};
+ghost use Rattle.optimality.specs.Series.{Limited};
+ghost use Rattle.optimality.specs.Machine.{plain-line};
 ghost use Rattle.optimality.specs.PlainSeries.{line-lengths, line-totals};
+ghost use Rattle.denoise.specs.Attempt.{LeavesOff};
 
-// The line of the samples from the dual u on. The lists' entries after it may hold anything.
+// The line, of which the first m segments are there: those of the first i minutes, after which the dual is u. Later entries may then hold anything.
 pub(crate) fn finish(
     samples: &[i32],
     smoothing: u64,
+    m: u32,
+    i: usize,
     u: i64,
     lengths: &mut [u32],
     totals: &mut [i64],
 ) -> u32
     requires { ⌜ Limited (now samples) smoothing ⌝ }
-    requires { ⌜ Upto smoothing u ⌝ }
+    requires { ⌜ LeavesOff (now samples) smoothing 0 m i u ⌝ }
     requires { ⌜ length (now samples) ≤ length (now lengths) ⌝ }
     requires { ⌜ length (now samples) ≤ length (now totals) ⌝ }
-    ensures { λ m. ⌜ m ≡ length (line (increments (pos smoothing) u (pos 0) (plain (now (samples .entry))))) ⌝ }
-    ensures { λ m. ⌜ take m (now (lengths .exit)) ≡ line-lengths (line (increments (pos smoothing) u (pos 0) (plain (now (samples .entry))))) ⌝ }
-    ensures { λ m. ⌜ take m (now (totals .exit)) ≡ line-totals (line (increments (pos smoothing) u (pos 0) (plain (now (samples .entry))))) ⌝ }
+    requires { ⌜ take m (now lengths) ≡ line-lengths (take m (plain-line (pos smoothing) (now samples))) ⌝ }
+    requires { ⌜ take m (now totals) ≡ line-totals (take m (plain-line (pos smoothing) (now samples))) ⌝ }
+    ensures { λ n. ⌜ n ≡ length (plain-line (pos smoothing) (now (samples .entry))) ⌝ }
+    ensures { λ n. ⌜ take n (now (lengths .exit)) ≡ line-lengths (plain-line (pos smoothing) (now (samples .entry))) ⌝ }
+    ensures { λ n. ⌜ take n (now (totals .exit)) ≡ line-totals (plain-line (pos smoothing) (now (samples .entry))) ⌝ }
 {
     let mut none = [0u32; 0];
-    taut::inner::draw(samples, b"", smoothing, u, 0, lengths, &mut none, totals)
+    let k = m as usize;
+    let more = taut::inner::draw(
+        &samples[i..],
+        b"",
+        smoothing,
+        u,
+        0,
+        &mut lengths[k..],
+        &mut none,
+        &mut totals[k..],
+    );
+    m + more
 }

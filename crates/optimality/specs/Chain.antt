@@ -78,7 +78,8 @@ module _ {δ : View} (w : OpenTube δ) (w′ : OpenTube (flip δ)) where
 
     later : (j : ℕ) → μ < j → j < e → δ .le (along δ κ j) m
     later j a b =
-        let q : δ .le (level x) (along δ j e) = move-le w′ (δ .near) μ j e (δ .near μ) (δ .near j) (level x) b n (subst (λ r. δ .le (level x) r) (X .is) (self-edge X)) (X .over j a (omega arith)) in
+        let q : δ .le (level x) (along δ j e) =
+        move-le w′ (δ .near) μ j e (δ .near μ) (δ .near j) (level x) b n (subst (λ r. δ .le (level x) r) (X .is) (self-edge X)) (X .over j a (omega arith)) in
         subst (λ r. δ .le r m)
         (ap₂ fraction (back-z (δ .near κ) (δ .near j) (δ .near e)) (back-z (δ .W κ) (δ .W j) (δ .W e)))
         (laws .sub-le whole (laws .lele under-second q) (subst (λ t. pos 0 ⋖ t) (sym (back-z (δ .W κ) (δ .W j) (δ .W e))) (wider w κ j (omega (arith, G .some)) (omega arith))))
@@ -119,7 +120,8 @@ module _ {δ : View} (w : OpenTube δ) (w′ : OpenTube (flip δ)) where
       let T = B .touch in
       let l : δ .lt (level g) (level b) = laws .ltle s (F .last) in
       let at : δ .le (along δ i κ) (level b) = B .under κ (omega (arith, T .from, T .upto)) (omega arith) in
-      let beyond : (j : ℕ) → κ < j → j ≤ e → δ .lt (along δ i j) (level b) = λ j a k. subst (λ r. δ .lt r (level b)) (join-is i κ j) (laws .add-lt (laws .lelt (E .over j a k) l) at) in
+      let beyond : (j : ℕ) → κ < j → j ≤ e → δ .lt (along δ i j) (level b) =
+      λ j a k. subst (λ r. δ .lt r (level b)) (join-is i κ j) (laws .add-lt (laws .lelt (E .over j a k) l) at) in
       record {
         best = record {
           under = λ j a k. ⊎-elim (λ (q : j ≤ κ). B .under j a q) (λ (q : κ < j). laws .weak (beyond j q k)) (le-or-lt j κ);

@@ -7,7 +7,7 @@ use native.Mathlib.Omega.{arith}
 use native.Mathlib.Nat.{eq-or-lt-of-le}
 use Prim.Native.Nat.{ℕ, _<_, _≤_}
 use lib.Dec.{T, ltb, ltb→lt, nltb→le}
-use lib.IntN.{ℤ, pos, _+ℤ_, _-ℤ_, +ℤ-idr}
+use lib.IntN.{ℤ, _+ℤ_, _-ℤ_, +ℤ-idr}
 use Rattle.integers.specs.Order.{_⩽_, gap<}
 use Rattle.integers.specs.Linear.{int}
 use Rattle.optimality.specs.Machine.{Increments}

@@ -53,8 +53,11 @@ module _ (d : Increments) where
 
   -- what a side rises
   side-rises : (σ : Side) (j : ℕ) → j < N → (unit d σ j) .total ≡ edge-of d σ (suc j) -ℤ edge-of d σ j
-  side-rises floor j h = up-z (R d j) (rises d j) (width d (suc j)) L ∙ ap₂ _-ℤ_ (ap (λ m. m -ℤ width d (suc j)) (mid-next j h)) (sym (ap₂ _-ℤ_ (inner-mid j h) (inner-width j h)))
-  side-rises roof j h = down-z (R d j) (rises d j) (width d (suc j)) L ∙ ap₂ _-ℤ_ (ap (λ m. m +ℤ width d (suc j)) (mid-next j h)) (sym (ap₂ _+ℤ_ (inner-mid j h) (inner-width j h)))
+  side-rises floor j h =
+      up-z (R d j) (rises d j) (width d (suc j)) L ∙ ap₂ _-ℤ_ (ap (λ m. m -ℤ width d (suc j)) (mid-next j h)) (sym (ap₂ _-ℤ_ (inner-mid j h) (inner-width j h)))
+  side-rises roof j h =
+      down-z (R d j) (rises d j) (width d (suc j)) L ∙ ap₂ _-ℤ_ (ap (λ m. m +ℤ width d (suc j)) (mid-next j h))
+      (sym (ap₂ _+ℤ_ (inner-mid j h) (inner-width j h)))
 
 module _ (d : Increments) (r : ValidIncrements d) (σ : Side) where
   open Increments d using (N, w)
@@ -67,20 +70,27 @@ module _ (d : Increments) (r : ValidIncrements d) (σ : Side) where
         some = omega arith;
         len = omega arith;
         is = is;
-        over = λ k a b. one-more (λ m. band d σ .le (along (band d σ) j m) (level (unit d σ j))) k (subst (λ s. band d σ .le (along (band d σ) j (suc j)) s) (sym is) (self (open-band d r σ) j (edge-of d σ j) (suc j) (omega arith) h)) (λ b′. absurd (omega arith)) b;
+        over =
+            λ k a b. one-more (λ m. band d σ .le (along (band d σ) j m) (level (unit d σ j))) k
+            (subst (λ s. band d σ .le (along (band d σ) j (suc j)) s) (sym is) (self (open-band d r σ) j (edge-of d σ j) (suc j) (omega arith) h))
+            (λ b′. absurd (omega arith)) b;
       }
 
   -- ---- an edge more
   pub positive : {κ e : ℕ} {g : Segment} → Edge (band d σ) κ e g → e ≤ N → pos 0 ⋖ pos (g .divisor)
   positive {κ} {e} E n = subst (λ v. pos 0 ⋖ v .den) (sym (E .is)) (wider (open-band d r σ) κ e (E .some) n)
 
-  pooled-by : (i κ e : ℕ) (g : Segment) (gs : List Segment) (x : Segment) (t : Bool) → under σ (level x) (level g) ≡ t → Chain (band d σ) i κ (g ∷ gs) → (E : Edge (band d σ) κ e x) → e ≤ N →
-      ((μ : ℕ) → Chain (band d σ) i μ gs → Edge (band d σ) μ e (merge g x) → Chain (band d σ) i e (pool σ gs (merge g x))) → Chain (band d σ) i e (cond t (x ∷ g ∷ gs) (pool σ gs (merge g x)))
+  pooled-by : (i κ e : ℕ) (g : Segment) (gs : List Segment) (x : Segment) (t : Bool) → under σ (level x) (level g) ≡ t → Chain (band d σ) i κ (g ∷ gs) →
+      (E : Edge (band d σ) κ e x) → e ≤ N →
+      ((μ : ℕ) → Chain (band d σ) i μ gs → Edge (band d σ) μ e (merge g x) → Chain (band d σ) i e (pool σ gs (merge g x))) → Chain (band d σ) i e
+      (cond t (x ∷ g ∷ gs) (pool σ gs (merge g x)))
   unfolding Chain
-  pooled-by i κ e g gs x true t C E n rec = (record { at = κ; chain = C; edge = E }, under-true σ (level x) (level g) (positive E n) (positive (C .0 .edge) (omega (arith, E .some))) t)
+  pooled-by i κ e g gs x true t C E n rec =
+      (record { at = κ; chain = C; edge = E }, under-true σ (level x) (level g) (positive E n) (positive (C .0 .edge) (omega (arith, E .some))) t)
   pooled-by i κ e g gs x false t C E n rec =
       let G = C .0 .edge in
-      rec (C .0 .at) (C .0 .chain) (merged (open-band d r σ) (mirror-band d r σ) G E n (under-false σ (level x) (level g) (positive E n) (positive G (omega (arith, E .some))) t))
+      rec (C .0 .at) (C .0 .chain)
+      (merged (open-band d r σ) (mirror-band d r σ) G E n (under-false σ (level x) (level g) (positive E n) (positive G (omega (arith, E .some))) t))
 
   pub pooled : (i κ e : ℕ) (gs : List Segment) (x : Segment) → Chain (band d σ) i κ gs → Edge (band d σ) κ e x → e ≤ N → Chain (band d σ) i e (pool σ gs x)
   unfolding pool
@@ -91,4 +101,5 @@ module _ (d : Increments) (r : ValidIncrements d) (σ : Side) where
   pub filled : (f i e h : ℕ) (gs : List Segment) → e + f ≡ h → h ≤ N → Chain (band d σ) i e gs → Chain (band d σ) i h (fill d σ f e gs)
   unfolding fill
   filled zero i e h gs q n C = let q : e ≡ h = omega arith in subst (λ h. Chain (band d σ) i h gs) q C
-  filled (suc f) i e h gs q n C = filled f i (suc e) h (pool σ gs (unit d σ e)) (omega arith) n (pooled i e (suc e) gs (unit d σ e) C (unit-edge e (omega arith)) (omega arith))
+  filled (suc f) i e h gs q n C =
+      filled f i (suc e) h (pool σ gs (unit d σ e)) (omega arith) n (pooled i e (suc e) gs (unit d σ e) C (unit-edge e (omega arith)) (omega arith))

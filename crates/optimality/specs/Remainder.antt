@@ -1,6 +1,6 @@
 -- What is left of the machine's run where a segment begins is the line of the minutes that are left, from the dual there on. So it may be drawn in another
 -- way from there.
-use mathlib.Core.Path.{_≡_, refl, sym, _∙_, ap, subst}
+use mathlib.Core.Path.{_≡_, refl, _∙_, ap, subst}
 use mathlib.Core.List.{List, [], _∷_}
 use native.Mathlib.Omega.{arith}
 use Prim.Native.Nat.{ℕ, zero, suc, _<_}

@@ -45,14 +45,16 @@ module _ (d : Increments) (r : ValidIncrements d) where
       (λ (l : j < N). subst (λ x. le σ (near-at (view d σ) i z j) (fraction (x -ℤ z) (W d j -ℤ W d i))) (sym (inner-edge d σ j l)) (self (open-tube d r σ) i z j h k))
       (eq-or-lt-of-le k)
 
-  enclosed : (σ : Side) (i m : ℕ) (z : ℤ) (v : Fraction) → m ≤ N → ((j : ℕ) → i < j → j ≤ m → le σ (near-at (band d σ) i z j) v) → ((j : ℕ) → i < j → j ≤ m → le σ v (far-at (band d σ) i z j)) → Inside d i m z v
+  enclosed : (σ : Side) (i m : ℕ) (z : ℤ) (v : Fraction) → m ≤ N → ((j : ℕ) → i < j → j ≤ m → le σ (near-at (band d σ) i z j) v) →
+      ((j : ℕ) → i < j → j ≤ m → le σ v (far-at (band d σ) i z j)) → Inside d i m z v
   enclosed floor i m z v n h k floor j a b = upward .lele (in-tube floor i z j a (omega arith)) (h j a b)
   enclosed floor i m z v n h k roof j a b = upward .lele (k j a b) (in-tube roof i z j a (omega arith))
   enclosed roof i m z v n h k floor j a b = upward .lele (in-tube floor i z j a (omega arith)) (k j a b)
   enclosed roof i m z v n h k roof j a b = upward .lele (h j a b) (in-tube roof i z j a (omega arith))
 
   -- ---- the line leaves the level v at κ
-  pub closes : (c : Came) (σ : Side) {i h κ : ℕ} {z : ℤ} {v : Fraction} → Falls (band d σ) i h z v κ → Next c v → (l : List Segment) → Meets d (past σ v) κ (edge-of d σ κ) l → Meets d c i z (segment (κ - i) (v .den) (v .num) ∷ l)
+  pub closes : (c : Came) (σ : Side) {i h κ : ℕ} {z : ℤ} {v : Fraction} → Falls (band d σ) i h z v κ → Next c v → (l : List Segment) →
+      Meets d (past σ v) κ (edge-of d σ κ) l → Meets d c i z (segment (κ - i) (v .den) (v .num) ∷ l)
   closes c σ {i} {h} {κ} {z} {v} F n l M =
       let T = F .best .touch in
       let κN : κ < N = omega (arith, F .short, F .upto) in
@@ -74,7 +76,8 @@ module _ (d : Increments) (r : ValidIncrements d) where
   ordered-as roof v h = h
 
   -- the next level is on the right side of the last one
-  next : (c : Came) (σ : Side) (i : ℕ) (z : ℤ) (v : Fraction) → Stands d c i z → ((q : Fraction) → Ahead (band d σ) i z q → lt σ v q) → ((q : Fraction) → Ahead (flip (band d σ)) i z q → lt σ q v) → Next c v
+  next : (c : Came) (σ : Side) (i : ℕ) (z : ℤ) (v : Fraction) → Stands d c i z → ((q : Fraction) → Ahead (band d σ) i z q → lt σ v q) →
+      ((q : Fraction) → Ahead (flip (band d σ)) i z q → lt σ q v) → Next c v
   next first σ i z v S f g = tt
   next (past floor q) floor i z v S f g = f q S
   next (past floor q) roof i z v S f g = g q S
@@ -91,7 +94,8 @@ module _ (d : Increments) (r : ValidIncrements d) where
       abbrev new : Side → Fraction
       new σ = near-at (band d σ) i z (suc k)
 
-      pub kept-or-new : (σ : Side) (keeps : Bool) → (keeps ≡ true → lt σ (new σ) (v σ)) → (keeps ≡ false → le σ (v σ) (new σ)) → Best (band d σ) i (suc k) z (cond keeps (v σ) (new σ)) (cond keeps (κ σ) (suc k))
+      pub kept-or-new : (σ : Side) (keeps : Bool) → (keeps ≡ true → lt σ (new σ) (v σ)) → (keeps ≡ false → le σ (v σ) (new σ)) →
+          Best (band d σ) i (suc k) z (cond keeps (v σ) (new σ)) (cond keeps (κ σ) (suc k))
       kept-or-new σ true f g = best-keep (open-band d r σ) (B .best σ) (f refl)
       kept-or-new σ false f g = best-renew (open-band d r σ) (B .best σ) kn (g refl)
 
@@ -101,8 +105,14 @@ module _ (d : Increments) (r : ValidIncrements d) where
       still-ordered false true f g = g
       still-ordered false false f g = open-band d r floor .tube i z (suc k) (omega (arith, B .from)) kn
 
-      pub goes : v floor ≼ new roof → new floor ≼ v roof → (keeps : Side → Bool) → ((σ : Side) → keeps σ ≡ true → lt σ (new σ) (v σ)) → ((σ : Side) → keeps σ ≡ false → le σ (v σ) (new σ)) → Bounds d i (suc k) z (λ σ. cond (keeps σ) (v σ) (new σ)) (λ σ. cond (keeps σ) (κ σ) (suc k))
-      goes s t keeps f g = record { from = omega (arith, B .from); upto = kn; best = λ σ. kept-or-new σ (keeps σ) (f σ) (g σ); ordered = still-ordered (keeps floor) (keeps roof) s t }
+      pub goes : v floor ≼ new roof → new floor ≼ v roof → (keeps : Side → Bool) → ((σ : Side) → keeps σ ≡ true → lt σ (new σ) (v σ)) →
+          ((σ : Side) → keeps σ ≡ false → le σ (v σ) (new σ)) → Bounds d i (suc k) z (λ σ. cond (keeps σ) (v σ) (new σ)) (λ σ. cond (keeps σ) (κ σ) (suc k))
+      goes s t keeps f g = record {
+        from = omega (arith, B .from);
+        upto = kn;
+        best = λ σ. kept-or-new σ (keeps σ) (f σ) (g σ);
+        ordered = still-ordered (keeps floor) (keeps roof) s t;
+      }
 
       -- ---- the line leaves a bound
       pub leaves : (σ : Side) → lt σ (far-at (band d σ) i z (suc k)) (v σ) → Falls (band d σ) i (suc k) z (v σ) (κ σ)
@@ -138,10 +148,12 @@ module _ (d : Increments) (r : ValidIncrements d) where
 
   -- ---- after a fall, at h: the greatest slope v, and the far side at h
   module _ (σ : Side) {i h : ℕ} {z : ℤ} {p : Fraction} (F : Fallen (band d σ) i h z p) where
-    settled-best : {v : Fraction} {κ : ℕ} → Best (band d σ) i h z v κ → (τ : Side) → Best (band d τ) i h z (by-side σ v (far-at (band d σ) i z h) τ) (by-side σ κ h τ)
+    settled-best : {v : Fraction} {κ : ℕ} → Best (band d σ) i h z v κ → (τ : Side) →
+        Best (band d τ) i h z (by-side σ v (far-at (band d σ) i z h) τ) (by-side σ κ h τ)
     settled-best B τ = go σ τ F B
       where
-        go : (σ τ : Side) → Fallen (band d σ) i h z p → {v : Fraction} {κ : ℕ} → Best (band d σ) i h z v κ → Best (band d τ) i h z (by-side σ v (far-at (band d σ) i z h) τ) (by-side σ κ h τ)
+        go : (σ τ : Side) → Fallen (band d σ) i h z p → {v : Fraction} {κ : ℕ} → Best (band d σ) i h z v κ →
+            Best (band d τ) i h z (by-side σ v (far-at (band d σ) i z h) τ) (by-side σ κ h τ)
         go floor floor F B = B
         go floor roof F B = other-best (open-band d r floor) (open-band d r roof) F
         go roof floor F B = other-best (open-band d r roof) (open-band d r floor) F
@@ -151,7 +163,8 @@ module _ (d : Increments) (r : ValidIncrements d) where
     settled-ordered floor v u h = h
     settled-ordered roof v u h = h
 
-    pub settles : {v : Fraction} {κ : ℕ} → Best (band d σ) i h z v κ → le σ v (far-at (band d σ) i z h) → Bounds d i h z (by-side σ v (far-at (band d σ) i z h)) (by-side σ κ h)
+    pub settles : {v : Fraction} {κ : ℕ} → Best (band d σ) i h z v κ → le σ v (far-at (band d σ) i z h) →
+        Bounds d i h z (by-side σ v (far-at (band d σ) i z h)) (by-side σ κ h)
     settles B t = record { from = F .from; upto = F .upto; best = settled-best B; ordered = settled-ordered σ _ _ t }
 
     pub stands : Stands d (past σ p) i z

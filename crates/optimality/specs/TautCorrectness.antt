@@ -52,10 +52,12 @@ module _ (d : Increments) where
   at-side-is roof i j z U n h k = ap₂ fraction (ap (λ x. x +ℤ width d j) h ∙ swap-z (mid d j) z (width d j)) k
 
   pub next-sum : (k : ℕ) (z U : ℤ) → k < N → U ≡ mid d k -ℤ z → U +ℤ rises d k ≡ mid d (suc k) -ℤ z
-  next-sum k z U h e = ap (λ x. x +ℤ rises d k) e ∙ swap-z (mid d k) z (rises d k) ∙ ap (λ m. m -ℤ z) (ap (λ m. m +ℤ rises d k) (inner-mid d k h) ∙ mid-next d k h)
+  next-sum k z U h e =
+      ap (λ x. x +ℤ rises d k) e ∙ swap-z (mid d k) z (rises d k) ∙ ap (λ m. m -ℤ z) (ap (λ m. m +ℤ rises d k) (inner-mid d k h) ∙ mid-next d k h)
 
   -- seen from κ, where the line is at c
-  pub moved : (i κ h : ℕ) (z c U n t m : ℤ) → U ≡ mid d h -ℤ z → n ≡ W d h -ℤ W d i → fraction t m ≡ fraction (c -ℤ z) (W d κ -ℤ W d i) → (U -ℤ t ≡ mid d h -ℤ c) × (n -ℤ m ≡ W d h -ℤ W d κ)
+  pub moved : (i κ h : ℕ) (z c U n t m : ℤ) → U ≡ mid d h -ℤ z → n ≡ W d h -ℤ W d i → fraction t m ≡ fraction (c -ℤ z) (W d κ -ℤ W d i) →
+      (U -ℤ t ≡ mid d h -ℤ c) × (n -ℤ m ≡ W d h -ℤ W d κ)
   moved i κ h z c U n t m u k e = (ap₂ _-ℤ_ u (ap (λ v. v .num) e) ∙ from-z (mid d h) z c, ap₂ _-ℤ_ k (ap (λ v. v .den) e) ∙ from-z (W d h) (W d i) (W d κ))
 
   -- ---- the invariant: a chain that reaches beyond a bound's minute has that bound for its first edge
@@ -79,8 +81,14 @@ module _ (d : Increments) where
   abbrev pub Continues : ℕ → (Taut → List Segment) → Type 0
   Continues h then = (c : Came) (z : ℤ) (s : Taut) → Inv z s → s .k ≡ h → Stands d c (s .i) z → Meets d c (s .i) z (then s)
 
-  pub same-bounds : {i k : ℕ} {z : ℤ} {v v′ : Side → Fraction} {κ κ′ : Side → ℕ} → ((σ : Side) → v σ ≡ v′ σ) → ((σ : Side) → κ σ ≡ κ′ σ) → Bounds d i k z v κ → Bounds d i k z v′ κ′
-  same-bounds {i} {k} {z} e f B = record { from = B .from; upto = B .upto; best = λ σ. subst₂ (Best (band d σ) i k z) (e σ) (f σ) (B .best σ); ordered = subst₂ _≼_ (e floor) (e roof) (B .ordered) }
+  pub same-bounds : {i k : ℕ} {z : ℤ} {v v′ : Side → Fraction} {κ κ′ : Side → ℕ} → ((σ : Side) → v σ ≡ v′ σ) → ((σ : Side) → κ σ ≡ κ′ σ) → Bounds d i k z v κ →
+      Bounds d i k z v′ κ′
+  same-bounds {i} {k} {z} e f B = record {
+    from = B .from;
+    upto = B .upto;
+    best = λ σ. subst₂ (Best (band d σ) i k z) (e σ) (f σ) (B .best σ);
+    ordered = subst₂ _≼_ (e floor) (e roof) (B .ordered);
+  }
 
   end-mid : mid d N ≡ R d N -ℤ d .b
   end-mid = rw (at-end d)
@@ -117,10 +125,12 @@ module _ (d : Increments) (r : ValidIncrements d) where
           go roof floor = refl
           go roof roof = refl
 
-      settled-linked : Linked d σ i (edge-of d σ i) h gs (level g) (i + g .len) → (τ : Side) → (knot τ s′) .k < h → Linked d τ i (edge-of d σ i) h gs (rate (knot τ s′)) ((knot τ s′) .k)
+      settled-linked : Linked d σ i (edge-of d σ i) h gs (level g) (i + g .len) → (τ : Side) → (knot τ s′) .k < h →
+          Linked d τ i (edge-of d σ i) h gs (rate (knot τ s′)) ((knot τ s′) .k)
       settled-linked K τ l = go σ τ K l
         where
-          go : (σ τ : Side) → Linked d σ i (edge-of d σ i) h gs (level g) (i + g .len) → let s′ = settle d σ h i U n gs g in (knot τ s′) .k < h → Linked d τ i (edge-of d σ i) h gs (rate (knot τ s′)) ((knot τ s′) .k)
+          go : (σ τ : Side) → Linked d σ i (edge-of d σ i) h gs (level g) (i + g .len) → let s′ =
+              settle d σ h i U n gs g in (knot τ s′) .k < h → Linked d τ i (edge-of d σ i) h gs (rate (knot τ s′)) ((knot τ s′) .k)
           go floor floor K l = K
           go floor roof K l = absurd (omega arith)
           go roof floor K l = absurd (omega arith)
@@ -138,10 +148,13 @@ module _ (d : Increments) (r : ValidIncrements d) where
 
       module _ (gs : List Segment) (g : Segment) (best : Best (band d σ) i h z (level g) (i + g .len)) where
         g-positive : pos 0 ⋖ pos (g .divisor)
-        g-positive = subst (λ v. pos 0 ⋖ v .den) (sym (best .touch .is)) (wider (open-band d r σ) i (i + g .len) (best .touch .from) (omega (arith, best .touch .upto, F .upto)))
+        g-positive =
+            subst (λ v. pos 0 ⋖ v .den) (sym (best .touch .is))
+            (wider (open-band d r σ) i (i + g .len) (best .touch .from) (omega (arith, best .touch .upto, F .upto)))
 
         -- the far side does not lie under it
-        pub settled : Linked d σ i z h gs (level g) (i + g .len) → under σ (rate (at-side d (other σ) h U n)) (level g) ≡ false → Inv d z (settle d σ h i U n gs g)
+        pub settled : Linked d σ i z h gs (level g) (i + g .len) → under σ (rate (at-side d (other σ) h U n)) (level g) ≡ false →
+            Inv d z (settle d σ h i U n gs g)
         settled K t = record {
           bounded = same-bounds d (λ τ. ap (λ x. by-side σ (level g) x τ) (sym far-is) ∙ settled-rate i U n gs g τ) (settled-k i U n gs g)
               (settles d r σ F best (subst (λ x. le σ (level g) x) far-is (under-false σ (rate (at-side d (other σ) h U n)) (level g) far-positive g-positive t)));
@@ -153,25 +166,33 @@ module _ (d : Increments) (r : ValidIncrements d) where
 
         -- or it does
         pub falls-again : under σ (rate (at-side d (other σ) h U n)) (level g) ≡ true → Falls (band d σ) i h z (level g) (i + g .len)
-        falls-again t = again (open-band d r σ) F best (subst (λ x. lt σ x (level g)) far-is (under-true σ (rate (at-side d (other σ) h U n)) (level g) far-positive g-positive t))
+        falls-again t =
+            again (open-band d r σ) F best
+            (subst (λ x. lt σ x (level g)) far-is (under-true σ (rate (at-side d (other σ) h U n)) (level g) far-positive g-positive t))
 
-        pub closed-again : Falls (band d σ) i h z (level g) (i + g .len) → (l : List Segment) → Meets d (past σ (level g)) (i + g .len) (edge-of d σ (i + g .len)) l → Meets d (past σ p) i z (g ∷ l)
-        closed-again G l M = subst (λ x. Meets d (past σ p) i z (x ∷ l)) (as-segment d i g) (closes d r (past σ p) σ G (next-under (open-band d r σ) F best) l M)
+        pub closed-again : Falls (band d σ) i h z (level g) (i + g .len) → (l : List Segment) →
+            Meets d (past σ (level g)) (i + g .len) (edge-of d σ (i + g .len)) l → Meets d (past σ p) i z (g ∷ l)
+        closed-again G l M =
+            subst (λ x. Meets d (past σ p) i z (x ∷ l)) (as-segment d i g) (closes d r (past σ p) σ G (next-under (open-band d r σ) F best) l M)
 
         pub after-is : (U -ℤ g .total ≡ mid d h -ℤ edge-of d σ (i + g .len)) × (n -ℤ pos (g .divisor) ≡ W d h -ℤ W d (i + g .len))
         after-is = moved d i (i + g .len) h z (edge-of d σ (i + g .len)) U n (g .total) (pos (g .divisor)) u k (best .touch .is)
 
     module _ (then : Taut → List Segment) (next : Continues d h then) where
-      falls-by : (i : ℕ) (U n : ℤ) (p : Fraction) (F : Fallen (band d σ) i h (edge-of d σ i) p) (u : U ≡ mid d h -ℤ edge-of d σ i) (k : n ≡ W d h -ℤ W d i) (gs : List Segment) (g : Segment) (best : Best (band d σ) i h (edge-of d σ i) (level g) (i + g .len)) → Linked d σ i (edge-of d σ i) h gs (level g) (i + g .len) →
+      falls-by : (i : ℕ) (U n : ℤ) (p : Fraction) (F : Fallen (band d σ) i h (edge-of d σ i) p) (u : U ≡ mid d h -ℤ edge-of d σ i) (k : n ≡ W d h -ℤ W d i)
+          (gs : List Segment) (g : Segment) (best : Best (band d σ) i h (edge-of d σ i) (level g) (i + g .len)) →
+          Linked d σ i (edge-of d σ i) h gs (level g) (i + g .len) →
           (t : Bool) → under σ (rate (at-side d (other σ) h U n)) (level g) ≡ t → (l : List Segment) →
           (Fallen (band d σ) (i + g .len) h (edge-of d σ (i + g .len)) (level g) → Meets d (past σ (level g)) (i + g .len) (edge-of d σ (i + g .len)) l) →
           Meets d (past σ p) i (edge-of d σ i) (cond t (g ∷ l) (then (settle d σ h i U n gs g)))
       falls-by i U n p F u k gs g best K true t l rec =
           let G = falls-again i U n p F u k gs g best t in
           closed-again i U n p F u k gs g best G l (rec (fallen (open-band d r σ) (mirror-band d r σ) G))
-      falls-by i U n p F u k gs g best K false t l rec = next (past σ p) (edge-of d σ i) (settle d σ h i U n gs g) (settled i U n p F u k gs g best K t) refl (stands d r σ F)
+      falls-by i U n p F u k gs g best K false t l rec =
+          next (past σ p) (edge-of d σ i) (settle d σ h i U n gs g) (settled i U n p F u k gs g best K t) refl (stands d r σ F)
 
-      pub falls-meet : (f i : ℕ) (U n : ℤ) (gs : List Segment) (p : Fraction) → h ≤ i + f → Fallen (band d σ) i h (edge-of d σ i) p → Chain (band d σ) i h gs → U ≡ mid d h -ℤ edge-of d σ i → n ≡ W d h -ℤ W d i → Meets d (past σ p) i (edge-of d σ i) (falls d σ h f i U n gs then)
+      pub falls-meet : (f i : ℕ) (U n : ℤ) (gs : List Segment) (p : Fraction) → h ≤ i + f → Fallen (band d σ) i h (edge-of d σ i) p → Chain (band d σ) i h gs →
+          U ≡ mid d h -ℤ edge-of d σ i → n ≡ W d h -ℤ W d i → Meets d (past σ p) i (edge-of d σ i) (falls d σ h f i U n gs then)
       unfolding falls Chain
       falls-meet zero i U n gs p l F C u k = absurd (omega (arith, F .from))
       falls-meet (suc f) i U n [] p l F C u k = absurd (omega (arith, F .from, C))
@@ -179,7 +200,8 @@ module _ (d : Increments) (r : ValidIncrements d) where
           let c = bottom g gs in
           let best : Best (band d σ) i h (edge-of d σ i) (level c) (i + c .len) = first-best (open-band d r σ) (mirror-band d r σ) i h g gs C .best in
           let e = after-is i U n p F u k (g ∷ gs) c best in
-          falls-by i U n p F u k (g ∷ gs) c best (record { on = refl; chain = C; heads = (refl, refl) }) (under σ (rate (at-side d (other σ) h U n)) (level c)) refl _
+          falls-by i U n p F u k (g ∷ gs) c best (record { on = refl; chain = C; heads = (refl, refl) })
+          (under σ (rate (at-side d (other σ) h U n)) (level c)) refl _
           (λ G. falls-meet f (i + c .len) _ _ (rest g gs) (level c) (omega (arith, best .touch .from)) G (after-first (open-band d r σ) (mirror-band d r σ) i h g gs C) (e .0) (e .1))
 
   -- ---- a minute
@@ -220,7 +242,8 @@ module _ (d : Increments) (r : ValidIncrements d) where
       headed [] e C H = absurd H
       headed (g ∷ gs) e C H = subst (λ m. Chain (band d σ) m e (rest g gs)) (H .1) (after-first (open-band d r σ) (mirror-band d r σ) (s .i) e g gs C)
 
-      pub left-chain : (t : Bool) → ltb κ (s .e) ≡ t → κ ≤ s .k → (cond t (s .e) κ ≤ s .k) × Chain (band d σ) κ (cond t (s .e) κ) (cond t (drop-first (s .chain)) [])
+      pub left-chain : (t : Bool) → ltb κ (s .e) ≡ t → κ ≤ s .k →
+          (cond t (s .e) κ ≤ s .k) × Chain (band d σ) κ (cond t (s .e) κ) (cond t (drop-first (s .chain)) [])
       left-chain true e h = let K = I .linked σ (ltb→lt κ (s .e) (subst T (sym e) tt)) in (I .upto, headed (s .chain) (s .e) (K .chain) (K .heads))
       left-chain false e h = (h, none-yet (open-band d r σ) (mirror-band d r σ) κ)
 
@@ -245,7 +268,8 @@ module _ (d : Increments) (r : ValidIncrements d) where
     more-k floor = cond-k (keeps? d floor s) (s .low) (next-at d floor s)
     more-k roof = cond-k (keeps? d roof s) (s .high) (next-at d roof s)
 
-    more-linked : (σ : Side) (t : Bool) (new : Knot) → new .k ≡ suc (s .k) → let v = cond t (knot σ s) new in v .k < s .e → Linked d σ (s .i) z (s .e) (s .chain) (rate v) (v .k)
+    more-linked : (σ : Side) (t : Bool) (new : Knot) → new .k ≡ suc (s .k) → let v =
+        cond t (knot σ s) new in v .k < s .e → Linked d σ (s .i) z (s .e) (s .chain) (rate v) (v .k)
     more-linked σ true new q l = I .linked σ l
     more-linked σ false new q l = absurd (omega (arith, I .upto))
 
@@ -265,13 +289,15 @@ module _ (d : Increments) (r : ValidIncrements d) where
     pub minute-meets : (then : Taut → List Segment) → Continues d (suc (s .k)) then → Meets d c (s .i) z (minute d s then)
     minute-meets then next = go (leaves? d floor s) (leaves? d roof s) refl refl
       where
-        go : (t u : Bool) → leaves? d floor s ≡ t → leaves? d roof s ≡ u → Meets d c (s .i) z (cond t (leave d floor s then) (cond u (leave d roof s then) (then (more d s))))
+        go : (t u : Bool) → leaves? d floor s ≡ t → leaves? d roof s ≡ u →
+            Meets d c (s .i) z (cond t (leave d floor s then) (cond u (leave d roof s then) (then (more d s))))
         go true u e f = leave-meets floor then next e
         go false true e f = leave-meets roof then next f
         go false false e f = next c z (more d s) (more-inv e f) refl S
 
   -- ---- the run
-  last-is : (i : ℕ) (z U n : ℤ) → U ≡ mid d N -ℤ z → n ≡ W d N -ℤ W d i → segment (N - i) n U ≡ segment (N - i) ((end-at (band d floor) i z) .den) ((end-at (band d floor) i z) .num)
+  last-is : (i : ℕ) (z U n : ℤ) → U ≡ mid d N -ℤ z → n ≡ W d N -ℤ W d i →
+      segment (N - i) n U ≡ segment (N - i) ((end-at (band d floor) i z) .den) ((end-at (band d floor) i z) .num)
   last-is i z U n u k = ap₂ (segment (N - i)) k (u ∙ ap (λ m. m -ℤ z) (end-mid d))
 
   pub scan-meets : (f : ℕ) (c : Came) (z : ℤ) (s : Taut) → Inv d z s → Stands d c (s .i) z → s .k + f ≡ N → Meets d c (s .i) z (scan d f s)
@@ -309,7 +335,9 @@ module _ (d : Increments) (r : ValidIncrements d) where
 -- ---- the theorem
 module _ (L a b : ℤ) (ms : List Minute) (w : Positive ms) (some : 0 < length ms) (smooth : pos 0 ⩽ L) (least : negℤ L ⩽ b) (most : b ⩽ L) where
   pub fast-correct : IsLine L a b ms (taut-line (increments L a b ms))
-  fast-correct = path-line L a b ms (taut-line (increments L a b ms)) (fast-path (increments L a b ms) (record { some = some; weights = weight-at ms w; smooth = smooth; least = least; most = most }))
+  fast-correct =
+      path-line L a b ms (taut-line (increments L a b ms))
+      (fast-path (increments L a b ms) (record { some = some; weights = weight-at ms w; smooth = smooth; least = least; most = most }))
 
   pub fast-line : taut-line (increments L a b ms) ≡ line (increments L a b ms)
   fast-line = unique L a b ms _ _ w smooth fast-correct (line-correct L a b ms w some smooth least most)
@@ -318,4 +346,5 @@ module _ (L a b : ℤ) (ms : List Minute) (w : Positive ms) (some : 0 < length m
 pub plain-fast-line : (L : ℤ) (ys : List ℤ) → 0 < length ys → pos 0 ⩽ L → taut-line (plain-increments L ys) ≡ plain-line L ys
 plain-fast-line L ys some smooth =
     let r = plain-valid L ys some smooth in
-    ap taut-line (sym (plain-same L ys)) ∙ fast-line L (pos 0) (pos 0) (plain ys) (plain-positive ys) (rw (length-plain ys) some) smooth (r .least) (r .most) ∙ plain-line-same L ys
+    ap taut-line (sym (plain-same L ys)) ∙ fast-line L (pos 0) (pos 0) (plain ys) (plain-positive ys) (rw (length-plain ys) some) smooth (r .least)
+    (r .most) ∙ plain-line-same L ys

@@ -72,7 +72,9 @@ module _ (d : Increments) (r : ValidIncrements d) (l : LimitedIncrements d) wher
       ⊎-elim
       (λ (q : i ≡ suc k). rw q (omega (arith, none-z (R d (suc k)))))
       (λ (m : i < suc k).
-      let f : natAbs (W d (suc k) -ℤ W d i) ≡ natAbs (W d k -ℤ W d i) + natAbs (w k) = ap natAbs (sym (weight-is d i k (W d k -ℤ W d i) refl)) ∙ abs-sum (W d k -ℤ W d i) (w k) (gap (ordered-W i k (omega arith) (omega arith))) (⋖→⩽ (r .weights k (omega arith))) in
+      let f : natAbs (W d (suc k) -ℤ W d i) ≡ natAbs (W d k -ℤ W d i) + natAbs (w k) =
+      ap natAbs (sym (weight-is d i k (W d k -ℤ W d i) refl))
+      ∙ abs-sum (W d k -ℤ W d i) (w k) (gap (ordered-W i k (omega arith) (omega arith))) (⋖→⩽ (r .weights k (omega arith))) in
       let g : natAbs (R d (suc k) -ℤ R d i) ≡ natAbs (R d k -ℤ R d i +ℤ p k) = ap natAbs (step-z a (prefix p k) (p k) (R d i)) in
       omega (arith, f, g, abs-+ (R d k -ℤ R d i) (p k), rise-upto i k (omega arith) (omega arith), l .samples k (omega arith)))
       (eq-or-lt-of-le h)

@@ -40,7 +40,8 @@ module _ (d : Increments) where
       let v = knot σ s in
       let h = suc (s .k) in
       let e = filled-to d (v .k) s in
-      suc (fill-work σ (h - e) e (chain-from d (v .k) s) + falls-work σ h h (v .k) (next-U d s -ℤ v .total) (next-n d s -ℤ v .n) (fill d σ (h - e) e (chain-from d (v .k) s)) then)
+      let gs = chain-from d (v .k) s in
+      suc (fill-work σ (h - e) e gs + falls-work σ h h (v .k) (next-U d s -ℤ v .total) (next-n d s -ℤ v .n) (fill d σ (h - e) e gs) then)
 
   abbrev pub minute-work : Taut → (Taut → ℕ) → ℕ
   minute-work s then = suc (cond (leaves? d floor s) (leave-work floor s then) (cond (leaves? d roof s) (leave-work roof s then) (then (more d s))))
@@ -58,7 +59,8 @@ unfolding pool pool-work
 pool-count σ [] x = omega arith
 pool-count σ (g ∷ gs) x = go (under σ (level x) (level g)) (pool-count σ gs (merge g x))
   where
-    go : (t : Bool) → pool-work σ gs (merge g x) + length (pool σ gs (merge g x)) ≡ suc (length gs) → cond t 0 (suc (pool-work σ gs (merge g x))) + length (cond t (x ∷ g ∷ gs) (pool σ gs (merge g x))) ≡ suc (length (g ∷ gs))
+    go : (t : Bool) → pool-work σ gs (merge g x) + length (pool σ gs (merge g x)) ≡ suc (length gs) →
+        cond t 0 (suc (pool-work σ gs (merge g x))) + length (cond t (x ∷ g ∷ gs) (pool σ gs (merge g x))) ≡ suc (length (g ∷ gs))
     go true h = omega arith
     go false h = omega arith
 
@@ -80,13 +82,15 @@ module _ (d : Increments) where
   fill-count σ zero e gs = omega arith
   fill-count σ (suc f) e gs = omega (arith, fill-count σ f (suc e) (pool σ gs (unit d σ e)), pool-count σ gs (unit d σ e))
 
-  falls-count : (σ : Side) (h f i : ℕ) (U n : ℤ) (gs : List Segment) (then : Taut → ℕ) (C : ℕ) → ((s : Taut) → s .k ≡ h → s .e ≡ h → then s ≤ C + length (s .chain)) → falls-work d σ h f i U n gs then ≤ C + length gs
+  falls-count : (σ : Side) (h f i : ℕ) (U n : ℤ) (gs : List Segment) (then : Taut → ℕ) (C : ℕ) →
+      ((s : Taut) → s .k ≡ h → s .e ≡ h → then s ≤ C + length (s .chain)) → falls-work d σ h f i U n gs then ≤ C + length gs
   unfolding falls-work
   falls-count σ h zero i U n gs then C B = omega arith
   falls-count σ h (suc f) i U n [] then C B = omega arith
   falls-count σ h (suc f) i U n (g ∷ gs) then C B =
       let b = bottom g gs in
-      go (under σ (rate (at-side d (other σ) h U n)) (level b)) (falls-count σ h f (i + b .len) (U -ℤ b .total) (n -ℤ pos (b .divisor)) (rest g gs) then C B) (B (settle d σ h i U n (g ∷ gs) b) refl refl)
+      go (under σ (rate (at-side d (other σ) h U n)) (level b)) (falls-count σ h f (i + b .len) (U -ℤ b .total) (n -ℤ pos (b .divisor)) (rest g gs) then C B)
+      (B (settle d σ h i U n (g ∷ gs) b) refl refl)
     where
       go : (t : Bool) {m k : ℕ} → m ≤ C + length (rest g gs) → k ≤ C + length (g ∷ gs) → cond t (suc m) k ≤ C + length (g ∷ gs)
       go true h k = omega (arith, length-rest g gs)
@@ -102,23 +106,29 @@ module _ (d : Increments) where
     shorter true = drop-shorter (s .chain)
     shorter false = omega arith
 
-  leave-count : (σ : Side) (s : Taut) (then : Taut → ℕ) (C : ℕ) → s .e ≤ s .k → ((s′ : Taut) → s′ .k ≡ suc (s .k) → s′ .e ≡ suc (s .k) → then s′ ≤ C + length (s′ .chain)) → leave-work d σ s then ≤ C + 3 + 2 * (s .k - s .e) + length (s .chain)
+  leave-count : (σ : Side) (s : Taut) (then : Taut → ℕ) (C : ℕ) → s .e ≤ s .k →
+      ((s′ : Taut) → s′ .k ≡ suc (s .k) → s′ .e ≡ suc (s .k) → then s′ ≤ C + length (s′ .chain)) →
+      leave-work d σ s then ≤ C + 3 + 2 * (s .k - s .e) + length (s .chain)
   leave-count σ s then C u B =
       let κ = (knot σ s) .k in
       let h = suc (s .k) in
       let e = filled-to d κ s in
       let gs = chain-from d κ s in
-      omega (arith, fill-count σ (h - e) e gs, falls-count σ h h κ (next-U d s -ℤ (knot σ s) .total) (next-n d s -ℤ (knot σ s) .n) (fill d σ (h - e) e gs) then C B, from s κ (ltb κ (s .e)) refl, shorter s κ (ltb κ (s .e)))
+      let F = falls-count σ h h κ (next-U d s -ℤ (knot σ s) .total) (next-n d s -ℤ (knot σ s) .n) (fill d σ (h - e) e gs) then C B in
+      omega (arith, fill-count σ (h - e) e gs, F, from s κ (ltb κ (s .e)) refl, shorter s κ (ltb κ (s .e)))
 
   scan-count : (f : ℕ) (s : Taut) → s .e ≤ s .k → scan-work d f s ≤ 1 + 4 * f + 2 * (s .k - s .e) + length (s .chain)
   unfolding scan-work
   scan-count zero s u = omega arith
   scan-count (suc f) s u =
       let then : Taut → ℕ = λ s′. scan-work d f s′ in
-      let B : (s′ : Taut) → s′ .k ≡ suc (s .k) → s′ .e ≡ suc (s .k) → scan-work d f s′ ≤ 1 + 4 * f + length (s′ .chain) = λ s′ k e. omega (arith, scan-count f s′ (omega arith)) in
-      go (leaves? d floor s) (leaves? d roof s) (leave-count floor s then (1 + 4 * f) u B) (leave-count roof s then (1 + 4 * f) u B) (scan-count f (more d s) (omega arith))
+      let B : (s′ : Taut) → s′ .k ≡ suc (s .k) → s′ .e ≡ suc (s .k) → scan-work d f s′ ≤ 1 + 4 * f + length (s′ .chain) =
+      λ s′ k e. omega (arith, scan-count f s′ (omega arith)) in
+      go (leaves? d floor s) (leaves? d roof s) (leave-count floor s then (1 + 4 * f) u B) (leave-count roof s then (1 + 4 * f) u B)
+      (scan-count f (more d s) (omega arith))
     where
-      go : (t v : Bool) {x y z : ℕ} → x ≤ 1 + 4 * f + 3 + 2 * (s .k - s .e) + length (s .chain) → y ≤ 1 + 4 * f + 3 + 2 * (s .k - s .e) + length (s .chain) → z ≤ 1 + 4 * f + 2 * (suc (s .k) - s .e) + length (s .chain) → suc (cond t x (cond v y z)) ≤ 1 + 4 * suc f + 2 * (s .k - s .e) + length (s .chain)
+      go : (t v : Bool) {x y z : ℕ} → x ≤ 1 + 4 * f + 3 + 2 * (s .k - s .e) + length (s .chain) → y ≤ 1 + 4 * f + 3 + 2 * (s .k - s .e) + length (s .chain) →
+          z ≤ 1 + 4 * f + 2 * (suc (s .k) - s .e) + length (s .chain) → suc (cond t x (cond v y z)) ≤ 1 + 4 * suc f + 2 * (s .k - s .e) + length (s .chain)
       go true v p q r = omega arith
       go false true p q r = omega arith
       go false false p q r = omega arith

@@ -1,7 +1,7 @@
 -- What is proved of the line of a plain series, in one place: it meets (6) and (7), it alone does, it is the minimum (RULES 2.3, 2.5), its
 -- totals add up to the samples, its levels stay in the samples' range, the ten steps as the paper prints them write it, and the taut string draws it in at
 -- most four steps a minute.
-use mathlib.Core.Path.{_≡_}
+use mathlib.Core.Path.{_≡_, sym, subst}
 use mathlib.Core.List.{List}
 use Prim.Native.Nat.{ℕ, _*_, _<_, _≤_}
 use lib.ListN.{length}
@@ -56,3 +56,7 @@ module _ (L : ℤ) (ys : List ℤ) (some : 0 < length ys) (smooth : pos 0 ⩽ L)
 
   pub taut-linear : work (plain-increments L ys) ≤ 4 * length ys
   taut-linear = linear (plain-increments L ys) some
+
+  -- the printed steps write what the taut string draws
+  pub agree : Writes 0 (solution L ys) (taut-line (plain-increments L ys))
+  agree = subst (Writes 0 (solution L ys)) (sym taut) printed

@@ -7,16 +7,14 @@ use Prim.Native.Nat.{ℕ, _<_, _≤_}
 use lib.ListN.{length, take, length-map, length-take}
 use lib.Seq.{length-take-le}
 use lib.IntN.{ℤ, pos}
-use borrow.Author.Tests.{le-ltb}
 use Rattle.optimality.specs.Segments.{Segment}
 use Rattle.optimality.specs.PlainSeries.{line-lengths, line-totals}
 use Rattle.optimality.specs.Machine.{plain-line}
-use Rattle.level.specs.Answer.{Answer, refused, given, when-given}
+use Rattle.level.specs.Answer.{Answer, given, when-given}
 use Rattle.series.specs.Limits.{in-limits}
-use Rattle.denoise.specs.Line.{lineOf, lengthsOf, totalsOf}
-use Rattle.denoise.proofs.LineLaws.{lists, lengths-are, totals-are}
 use Rattle.series.specs.Answer.{passing}
 use Rattle.series.proofs.Refusals.{passed}
+use Rattle.series.proofs.LimitsLaws.{limits-given}
 use Rattle.sheet.specs.Read.{filed}
 use Rattle.sheet.specs.Complete.{Has}
 use Rattle.sheet.proofs.SheetRefusals.{tested-alike}
@@ -43,31 +41,22 @@ module _ (ys : List ℤ) (L : ℕ) where
       }
 
   module _ (ns : List ℕ) (ts : List ℤ) where
-    -- ---- drawn
-    pub drawn-has : (m : ℕ) (ns′ : List ℕ) (ts′ : List ℤ) → lineOf ys L ns ts ≡ given m → ns′ ≡ lengthsOf ys L ns ts → ts′ ≡ totalsOf ys L ns ts →
-        Has l m ns′ ts′
-    drawn-has m ns′ ts′ e p q =
-        let k = lists ys L ns ts m e in
-        has m ns′ ts′ (k .0 .some) (k .0 .few) (k .1) (ap (take m) p ∙ lengths-are ys L ns ts m e .0) (ap (take m) q ∙ totals-are ys L ns ts m e .0)
-
-    pub room-to-draw : length ys ≤ length ns → length ys ≤ length ts → lineOf ys L ns ts ≡ in-limits ys L (given (length l))
-    room-to-draw hn ht = rw (le-ltb (length ns) (length ys) hn, le-ltb (length ts) (length ys) ht)
-
     -- the lines of an answer that a call gives: k segments were filed
     abbrev Answered : ℕ → Answer ℕ → List ℕ → List ℤ → Type 0
     Answered k a ns′ ts′ = (a ≡ in-limits ys L (filed ys L (take k ns) (take k ts) (given (length l)))) × when-given a (λ m. Has l m ns′ ts′)
 
-    pub drawn-line : (k : ℕ) (a : Answer ℕ) (ns′ : List ℕ) (ts′ : List ℤ) → k ≡ 0 → length ys ≤ length ns → length ys ≤ length ts
-        → a ≡ lineOf ys L ns ts → ns′ ≡ lengthsOf ys L ns ts → ts′ ≡ totalsOf ys L ns ts → Answered k a ns′ ts′
-    drawn-line k a ns′ ts′ z hn ht e p q = (e ∙ room-to-draw hn ht ∙ rw z, go a (sym e))
-      where
-        go : (a : Answer ℕ) → lineOf ys L ns ts ≡ a → when-given a (λ m. Has l m ns′ ts′)
-        go (refused number place) e = tt
-        go (given m) e = drawn-has m ns′ ts′ e p q
+    abbrev Passes : ℕ → Type 0
+    Passes k = in-limits ys L (filed ys L (take k ns) (take k ts) passing) ≡ passing
+
+    -- ---- drawn
+    pub drawn-line : (k m : ℕ) (ns′ : List ℕ) (ts′ : List ℤ) → Passes k → (m ≡ length l) × ((take m ns′ ≡ line-lengths l) × (take m ts′ ≡ line-totals l)) →
+        Answered k (given m) ns′ ts′
+    drawn-line k m ns′ ts′ e h =
+        let W = limits-given ys L e .0 in
+        (ap given (h .0) ∙ sym (passed (tested-alike ys L (take k ns) (take k ts)) e .1), has m ns′ ts′ (W .some) (W .few) (h .0) (h .1 .0) (h .1 .1))
 
     -- ---- filed
-    pub filed-line : (k : ℕ) → 0 < k → k ≤ length ns → k ≤ length ts → in-limits ys L (filed ys L (take k ns) (take k ts) passing) ≡ passing →
-        Answered k (given k) ns ts
+    pub filed-line : (k : ℕ) → 0 < k → k ≤ length ns → k ≤ length ts → Passes k → Answered k (given k) ns ts
     filed-line k h hn ht e =
         let j = accepted-lists ys L (take k ns) (take k ts) e in
         let w = j .limited in

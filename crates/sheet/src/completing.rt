@@ -87,12 +87,15 @@ fn line(f: Fields, ys: &[i32], ns: &mut [u32], ts: &mut [i64]) -> Drawn
         (given (length (plain-line (pos (f .smoothing)) (now (ys .entry)))))) ⌝ }
     ensures { λ r. ⌜ when-given (drawn r) (λ m. Has (plain-line (pos (f .smoothing)) (now (ys .entry))) m (now (ns .exit)) (now (ts .exit))) ⌝ }
 {
-    if f.segments == 0 {
-        return denoise::line(ys, f.smoothing, ns, ts);
-    }
     let m = f.segments as usize;
     match checking::check_filed(ys, f.smoothing, &ns[..m], &ts[..m]) {
-        Checked::Refused(number, place) => Drawn::Refused(number, place),
-        Checked::Passed => Drawn::Segments(f.segments),
+        Checked::Refused(number, place) => {
+            return Drawn::Refused(number, place);
+        }
+        Checked::Passed => {}
     }
+    if m > 0 {
+        return Drawn::Segments(f.segments);
+    }
+    Drawn::Segments(fast::inner::draw(ys, f.smoothing, ns, ts))
 }

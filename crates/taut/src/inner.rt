@@ -30,16 +30,13 @@ pub fn draw(
     requires { ⌜ length (now samples) ≤ length (now lengths) ⌝ }
     requires { ⌜ (length (now samples) ≤ length (now divisors)) ⊎ ((length (now divisors) ≡ 0) × (length (now weights) ≡ 0)) ⌝ }
     requires { ⌜ length (now samples) ≤ length (now totals) ⌝ }
-    ensures { λ m. ⌜ m ≡ length (line (increments (pos smoothing) a b (minutesOf (now (weights .entry)) (now (samples .entry))))) ⌝ }
-    ensures { λ m. ⌜ take m (now (lengths .exit))
+    ensures answer { λ m. ⌜ m ≡ length (line (increments (pos smoothing) a b (minutesOf (now (weights .entry)) (now (samples .entry))))) ⌝ }
+    ensures lengths { λ m. ⌜ take m (now (lengths .exit))
         ≡ line-lengths (line (increments (pos smoothing) a b (minutesOf (now (weights .entry)) (now (samples .entry))))) ⌝ }
-    ensures { λ m. ⌜ (length (now (samples .entry)) ≤ length (now (divisors .entry)) → take m (now (divisors .exit))
+    ensures divisors { λ m. ⌜ (length (now (samples .entry)) ≤ length (now (divisors .entry)) → take m (now (divisors .exit))
         ≡ line-divisors (line (increments (pos smoothing) a b (minutesOf (now (weights .entry)) (now (samples .entry)))))) ⌝ }
-    ensures { λ m. ⌜ take m (now (totals .exit))
+    ensures totals { λ m. ⌜ take m (now (totals .exit))
         ≡ line-totals (line (increments (pos smoothing) a b (minutesOf (now (weights .entry)) (now (samples .entry))))) ⌝ }
-    ensures { λ _. ⌜ length (now (lengths .exit)) ≡ length (now (lengths .entry)) ⌝ }
-    ensures { λ _. ⌜ length (now (divisors .exit)) ≡ length (now (divisors .entry)) ⌝ }
-    ensures { λ _. ⌜ length (now (totals .exit)) ≡ length (now (totals .entry)) ⌝ }
 {
     let frame = Frame { smoothing, a, b };
     let mut s = string::begin(samples, weights, frame);

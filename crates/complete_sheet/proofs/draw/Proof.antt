@@ -1,10 +1,6 @@
 -- `complete_sheet::draw` meets its contract: the line that was filed, or the one that is drawn.
 use borrow.Author.Needs.{needs}
-use mathlib.Core.Path.{sym, ap, _∙_}
-use Rattle.denoise.specs.Line.{drawn}
-use Rattle.series.proofs.LimitsLaws.{limits-passed}
-use Rattle.series.proofs.Refusals.{never}
-use Rattle.sheet.proofs.OwnLine.{has, drawn-has, room-to-draw}
+use Rattle.sheet.proofs.OwnLine.{has}
 use Rattle.complete_sheet.proofs.draw.Statement.{statement}
 use Rattle.complete_sheet.proofs.draw.Tie as tie
 
@@ -15,37 +11,16 @@ returns c =
     let o = g .pre .own (c .before .if1 .taken) in
     has (g .args .samples .now) (g .args .f .smoothing) (g .args .f .segments) (g .args .lengths .now) (g .args .totals .now) (w .some) (w .few) (o .0) (o .1 .0) (o .1 .1)
 
+draw-requires : tie.Need-draw-requires
+draw-requires c κs = let p = c .before .before .before .before .before .pre in (p .limited, (p .lengths-room, p .totals-room))
+
 returns-2 : tie.Need-returns-2
 returns-2 c =
-    let l = c .before .before .before .before .before .before in
-    let g = l .before .before .before .before .before .before .args in
-    drawn-has (g .samples .now) (g .f .smoothing) (g .lengths .now) (g .totals .now) (c .before .m .given .0 .0) (l .line .last .1 .1 .0) (l .line .last .1 .1 .1 .0)
-    (sym (l .line .ensures .0) ∙ ap drawn (c .before .m .given .1)) (l .line .ensures .1 .0) (l .line .ensures .1 .1 .0)
-
--- within the limits, and with room, nothing is refused
-returns-3 : tie.Need-returns-3
-returns-3 c =
-    let l = c .before .before .before .before .before .before in
-    let g = l .before .before .before .before .before .before in
-    never
-    (sym (ap drawn (c .before .number .given .1))
-    ∙ l .line .ensures .0
-    ∙ room-to-draw (g .args .samples .now) (g .args .f .smoothing) (g .args .lengths .now) (g .args .totals .now) (g .pre .lengths-room) (g .pre .totals-room)
-    ∙ limits-passed (g .args .samples .now) (g .args .f .smoothing) _ (g .pre .limited))
+    let d = c .before .before .before in
+    let g = d .before .before .before .before .before .before in
+    let w = g .pre .limited in
+    let E = d .draw .ensures in
+    has (g .args .samples .now) (g .args .f .smoothing) _ _ _ (w .some) (w .few) (E .0) (E .1 .0) (E .1 .1)
 
 pub draw-spec : {M : Type 1} → statement M
-draw-spec =
-    tie.close
-    (tie.spec
-    (λ c. search needs)
-    returns
-    (λ c κs. search needs)
-    (λ c. search needs)
-    (λ c. search needs)
-    (λ c. search needs)
-    (λ c. search needs)
-    (λ c. search needs)
-    returns-2
-    (λ c. search needs)
-    (λ c. search needs)
-    returns-3)
+draw-spec = tie.close (tie.spec (λ c. search needs) returns draw-requires (λ c. search needs) (λ c. search needs) (λ c. search needs) returns-2)

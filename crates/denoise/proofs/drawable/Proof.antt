@@ -1,7 +1,7 @@
 -- `denoise::drawable` meets its contract.
 use borrow.Author.Needs.{needs}
 use borrow.Author.Tests.{lt-ltb, le-ltb}
-use mathlib.Core.Path.{_≡_, sym, ap, _∙_}
+use mathlib.Core.Path.{sym, ap, _∙_}
 use lib.ListN.{length}
 use Rattle.optimality.specs.Series.{Limited}
 use Rattle.series.specs.Answer.{checked}

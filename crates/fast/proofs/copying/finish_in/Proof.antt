@@ -1,88 +1,103 @@
--- `fast::copying::finish_in` meets its contract: what is drawn in the one pair of lists is copied to the other.
+-- `fast::copying::finish_in` meets its contract: the first segments are copied to the one pair of lists, and the line from there to the other.
 use borrow.Author.Needs.{needs}
 use mathlib.Core.Path.{_≡_, sym, _∙_, ap}
 use native.Mathlib.Omega.{arith}
 use Prim.Native.Nat.{_≤_}
 use lib.ListN.{length, take}
 use lib.Seq.{length-take-le}
-use lib.IntN.{pos}
-use mir.Syntax.{w64}
-use mir.Val.{toZ, ofZ}
-use Rattle.integers.specs.Bounds.{Upto, cleaning, clean}
-use Rattle.optimality.specs.Series.{plain}
-use Rattle.optimality.specs.Machine.{increments, line}
-use Rattle.optimality.specs.PlainSeries.{line-lengths, line-totals}
 use Rattle.series.specs.Answer.{refill}
-use Rattle.fast.proofs.RestLaws.{part-few}
+use Rattle.fast.proofs.RestLaws.{read, no-more, first-copied}
 use Rattle.fast.proofs.copying.finish_in.Statement.{statement}
 use Rattle.fast.proofs.copying.finish_in.Tie as tie
 
-read : (s : tie.Start) → toZ w64 (ofZ w64 (s .args .u)) ≡ s .args .u
-read s = let d : Upto 1099511627776 (s .args .u) = record { upto = omega (arith, s .pre .1 .0 .upto, s .pre .0 .smooth) } in clean (search cleaning depth 12) tt
+-- ---- the first segments
+module _ (s : tie.Start) where
+  in-lengths : s .args .m ≤ length (s .args .lengths .now)
+  in-lengths = omega (arith, s .pre .1 .0 .few, s .pre .1 .0 .before, s .pre .1 .1 .1 .1 .0)
 
-finish-requires : tie.Need-finish-requires
-finish-requires c κs =
-    let s = c .before .before .before .before in
-    rw (read s) (s .pre .0, (s .pre .1 .0, (s .pre .1 .1 .0, s .pre .1 .1 .1 .0)))
+  in-totals : s .args .m ≤ length (s .args .totals .now)
+  in-totals = omega (arith, s .pre .1 .0 .few, s .pre .1 .0 .before, s .pre .1 .1 .1 .1 .1 .0)
 
-cast-k : tie.Need-cast-k
-cast-k c = search needs
+  long : length (take (s .args .m) (s .args .lengths .now)) ≡ s .args .m
+  long = length-take-le _ _ in-lengths
 
-module _ (c : tie.After-finish) where
-  abbrev s : tie.Start
-  s = c .before .before .before .before .before
-
-  drawn : (c .finish .result ≡ length (line (increments (pos (s .args .smoothing)) (s .args .u) (pos 0) (plain (s .args .samples .now)))))
-      × ((take (c .finish .result) (c .finish .last .1 .1 .1 .0) ≡ line-lengths (line (increments (pos (s .args .smoothing)) (s .args .u) (pos 0) (plain (s .args .samples .now)))))
-      × (take (c .finish .result) (c .finish .last .1 .1 .1 .1 .0) ≡ line-totals (line (increments (pos (s .args .smoothing)) (s .args .u) (pos 0) (plain (s .args .samples .now))))))
-  drawn = let E = c .finish .ensures in rw (read s) at E
-
-  few : c .finish .result ≤ length (s .args .samples .now)
-  few = omega (arith, drawn .0, part-few (s .args .samples .now) (s .args .smoothing) (s .args .u) (s .pre .0))
-
-slice-reshare-prefix-copy-segments : tie.Need-slice-reshare-prefix-copy-segments
-slice-reshare-prefix-copy-segments c = let f = c .before .before .before in omega (arith, few f, s f .pre .1 .1 .0, f .finish .kept .1 .1 .1 .0)
-
-slice-aggregate-copy-segments : tie.Need-slice-aggregate-copy-segments
-slice-aggregate-copy-segments c =
-    let f = c .before .before .before .before in
-    sym (length-take-le _ _ (omega (arith, few f, s f .pre .1 .1 .0, f .finish .kept .1 .1 .1 .0)))
-
-slice-reshare-prefix-copy-segments-2 : tie.Need-slice-reshare-prefix-copy-segments-2
-slice-reshare-prefix-copy-segments-2 c = let f = c .before .before .before .before in omega (arith, few f, s f .pre .1 .1 .1 .0, f .finish .kept .1 .1 .1 .1 .0)
-
-slice-aggregate-copy-segments-2 : tie.Need-slice-aggregate-copy-segments-2
-slice-aggregate-copy-segments-2 c =
-    let f = c .before .before .before .before .before in
-    sym (length-take-le _ _ (omega (arith, few f, s f .pre .1 .1 .1 .0, f .finish .kept .1 .1 .1 .1 .0)))
+  long′ : length (take (s .args .m) (s .args .totals .now)) ≡ s .args .m
+  long′ = length-take-le _ _ in-totals
 
 copy-segments-requires : tie.Need-copy-segments-requires
 copy-segments-requires c κs =
+    let s = c .before .before .before .before .before .before in
+    let P = s .pre .1 .0 in
+    (long s ∙ sym (long′ s), (omega (arith, long s, P .few, P .before, s .pre .1 .1 .0), omega (arith, long′ s, P .few, P .before, s .pre .1 .1 .1 .0)))
+
+-- ---- the line
+finish-requires : tie.Need-finish-requires
+finish-requires c κs =
+    let y = c .before .before .before .before .before in
+    let s = y .before .before .before .before .before .before .before in
+    let p = s .pre in
+    let P = p .1 .0 in
+    let E = y .copy-segments .ensures in
+    rw (read (p .0 .smooth) (P .dual)) (
+      p .0,
+      (
+        P,
+        (
+          omega (arith, y .copy-segments .kept .1 .1 .0, p .1 .1 .0),
+          (
+            omega (arith, y .copy-segments .kept .1 .1 .1 .0, p .1 .1 .1 .0),
+            (first-copied _ _ _ _ (long s) (E .0) ∙ p .1 .1 .1 .1 .1 .1 .0, first-copied _ _ _ _ (long′ s) (E .1) ∙ p .1 .1 .1 .1 .1 .1 .1),
+          ),
+        ),
+      ),
+    )
+
+module _ (f : tie.After-finish) where
+  abbrev s₀ : tie.Start
+  s₀ = f .before .before .before .before .before .before .before .before .before .before .before .before .before
+
+  few : f .finish .result ≤ length (s₀ .args .samples .now)
+  few = let a = s₀ .args in omega (arith, f .finish .ensures .0, no-more (a .samples .now) (a .smoothing) (s₀ .pre .0) (a .m) (a .i) (a .u) (s₀ .pre .1 .0))
+
+  in-ns : f .finish .result ≤ length (f .finish .last .1 .1 .1 .1 .1 .0)
+  in-ns = omega (arith, few, s₀ .pre .1 .1 .0, f .finish .kept .1 .1 .1 .1 .1 .0, f .before .before .before .before .before .before .copy-segments .kept .1 .1 .0)
+
+  in-ts : f .finish .result ≤ length (f .finish .last .1 .1 .1 .1 .1 .1 .0)
+  in-ts = omega (arith, few, s₀ .pre .1 .1 .1 .0, f .finish .kept .1 .1 .1 .1 .1 .1 .0, f .before .before .before .before .before .before .copy-segments .kept .1 .1 .1 .0)
+
+copy-segments-requires-2 : tie.Need-copy-segments-requires-2
+copy-segments-requires-2 c κs =
     let f = c .before .before .before .before .before .before .before in
-    let a = length-take-le (f .finish .result) (f .finish .last .1 .1 .1 .0) (omega (arith, few f, s f .pre .1 .1 .0, f .finish .kept .1 .1 .1 .0)) in
-    let b = length-take-le (f .finish .result) (f .finish .last .1 .1 .1 .1 .0) (omega (arith, few f, s f .pre .1 .1 .1 .0, f .finish .kept .1 .1 .1 .1 .0)) in
-    (a ∙ sym b, (omega (arith, a, few f, s f .pre .1 .1 .1 .1 .0), omega (arith, b, few f, s f .pre .1 .1 .1 .1 .1)))
-
-same-length : tie.Need-same-length
-same-length c = search needs
-
-same-length-2 : tie.Need-same-length-2
-same-length-2 c = search needs
-
-same-length-3 : tie.Need-same-length-3
-same-length-3 c = search needs
-
-same-length-4 : tie.Need-same-length-4
-same-length-4 c = search needs
+    let n = length-take-le _ _ (in-ns f) in
+    let t = length-take-le _ _ (in-ts f) in
+    (n ∙ sym t, (omega (arith, n, few f, s₀ f .pre .1 .1 .1 .1 .0), omega (arith, t, few f, s₀ f .pre .1 .1 .1 .1 .1 .0)))
 
 returns : tie.Need-returns
 returns c =
     let y = c .before .before .before in
     let f = y .before .before .before .before .before .before .before .before in
-    let D = drawn f in
-    (D .0, (y .copy-segments .ensures .0 ∙ ap (λ l. refill l (s f .args .lengths .now)) (D .1 .0), y .copy-segments .ensures .1 ∙ ap (λ l. refill l (s f .args .totals .now)) (D .1 .1)))
+    let a = s₀ f .args in
+    let E = f .finish .ensures in
+    (E .0, (y .copy-segments2 .ensures .0 ∙ ap (λ l. refill l (a .lengths .now)) (E .1 .0), y .copy-segments2 .ensures .1 ∙ ap (λ l. refill l (a .totals .now)) (E .1 .1)))
 
 pub finish-in-spec : {M : Type 1} → statement M
 finish-in-spec =
     tie.close
-    (tie.spec finish-requires cast-k slice-reshare-prefix-copy-segments slice-aggregate-copy-segments slice-reshare-prefix-copy-segments-2 slice-aggregate-copy-segments-2 copy-segments-requires same-length same-length-2 same-length-3 same-length-4 returns)
+    (tie.spec
+    (λ c. in-lengths (c .before .before))
+    (λ c. sym (long (c .before .before .before)))
+    (λ c. in-totals (c .before .before .before))
+    (λ c. sym (long′ (c .before .before .before .before)))
+    copy-segments-requires
+    finish-requires
+    (λ c. search needs)
+    (λ c. in-ns (c .before .before .before))
+    (λ c. sym (length-take-le _ _ (in-ns (c .before .before .before .before))))
+    (λ c. in-ts (c .before .before .before .before))
+    (λ c. sym (length-take-le _ _ (in-ts (c .before .before .before .before .before))))
+    copy-segments-requires-2
+    (λ c. search needs)
+    (λ c. search needs)
+    (λ c. search needs)
+    (λ c. search needs)
+    returns)

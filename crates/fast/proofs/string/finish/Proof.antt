@@ -1,53 +1,100 @@
--- `fast::string::finish` meets its contract: a plain series has no weights, and its lengths are its divisors.
+-- `fast::string::finish` meets its contract: the taut string writes the rest behind the first segments. Of a plain series the lengths are the divisors.
 use borrow.Author.Needs.{needs}
-use mathlib.Core.Path.{_≡_, refl, _∙_, ap, ap₂}
+use mathlib.Core.Path.{refl}
 use mathlib.Core.Logic.{inr}
-use mathlib.Core.List.{[]}
 use native.Mathlib.Omega.{arith}
+use Prim.Native.Nat.{_<_, _≤_}
 use lib.ListN.{length}
-use lib.IntN.{pos}
-use mir.Syntax.{w64}
-use mir.Val.{toZ, ofZ}
-use Rattle.integers.specs.Bounds.{Upto, cleaning, clean}
-use Rattle.optimality.specs.Series.{plain}
-use Rattle.optimality.specs.Machine.{increments, line}
-use Rattle.optimality.specs.PlainSeries.{line-lengths, line-totals}
-use Rattle.taut.specs.Input.{minutesOf}
-use Rattle.taut.proofs.PlainLaws.{minutes-plain, plain-ok}
+use Rattle.fast.proofs.RestLaws.{no-more, asked, room-behind, count, begins}
 use Rattle.fast.proofs.string.finish.Statement.{statement}
 use Rattle.fast.proofs.string.finish.Tie as tie
 
-slice-aggregate-draw : tie.Need-slice-aggregate-draw
-slice-aggregate-draw c = search needs
-
-slice-aggregate-draw-2 : tie.Need-slice-aggregate-draw-2
-slice-aggregate-draw-2 c = search needs
-
+-- there is room
 module _ (s : tie.Start) where
-  read : toZ w64 (ofZ w64 (s .args .u)) ≡ s .args .u
-  read = let d : Upto 1099511627776 (s .args .u) = record { upto = omega (arith, s .pre .1 .0 .upto, s .pre .0 .smooth) } in clean (search cleaning depth 12) tt
+  inside : s .args .i ≤ length (s .args .samples .now)
+  inside = omega (arith, s .pre .1 .0 .before)
 
-  same : line (increments (pos (s .args .smoothing)) (toZ w64 (ofZ w64 (s .args .u))) (pos 0) (minutesOf [] (s .args .samples .now)))
-      ≡ line (increments (pos (s .args .smoothing)) (s .args .u) (pos 0) (plain (s .args .samples .now)))
-  same = ap₂ (λ u ms. line (increments (pos (s .args .smoothing)) u (pos 0) ms)) read (minutes-plain (s .args .samples .now))
+  few : s .args .m < 65536
+  few = omega (arith, s .pre .1 .0 .few, s .pre .1 .0 .before, s .pre .0 .few)
 
+  in-lengths : s .args .m ≤ length (s .args .lengths .now)
+  in-lengths = omega (arith, s .pre .1 .0 .few, s .pre .1 .0 .before, s .pre .1 .1 .0)
+
+  in-totals : s .args .m ≤ length (s .args .totals .now)
+  in-totals = omega (arith, s .pre .1 .0 .few, s .pre .1 .0 .before, s .pre .1 .1 .1 .0)
+
+mul-draw : tie.Need-mul-draw
+mul-draw c = let h = inside (c .before) in search needs
+
+mul-draw-2 : tie.Need-mul-draw-2
+mul-draw-2 c = record { fits = omega (arith, few (c .before .before .before)) }
+
+mul-draw-3 : tie.Need-mul-draw-3
+mul-draw-3 c = record { fits = omega (arith, few (c .before .before .before .before .before)) }
+
+-- ---- the taut string
 draw-requires : tie.Need-draw-requires
 draw-requires c κs =
-    let s = c .before .before .before .before .before in
-    rw (read s) (plain-ok _ _ _ _ (s .pre .0) (s .pre .1 .0) (record { upto = omega arith }), (s .pre .1 .1 .0, (inr (refl, refl), s .pre .1 .1 .1)))
+    let s = c .before .before .before .before .before .before in
+    let a = s .args in
+    let p = s .pre in (
+      asked (a .samples .now) (a .smoothing) (p .0) (a .m) (a .i) (a .u) (p .1 .0),
+      (
+        room-behind (a .samples .now) (a .smoothing) (p .0) (a .m) (a .i) (a .u) (p .1 .0) (a .lengths .now) (p .1 .1 .0),
+        (inr (refl, refl), room-behind (a .samples .now) (a .smoothing) (p .0) (a .m) (a .i) (a .u) (p .1 .0) (a .totals .now) (p .1 .1 .1 .0)),
+      ),
+    )
 
-same-length : tie.Need-same-length
-same-length c = search needs
-
-same-length-2 : tie.Need-same-length-2
-same-length-2 c = search needs
+add-result : tie.Need-add-result
+add-result c =
+    let d = c .before .before .before .before in
+    let s = d .before .before .before .before .before .before .before in
+    let a = s .args in
+    let p = s .pre in
+    record {
+      fits = omega (
+        arith,
+        count (a .samples .now) (a .smoothing) (p .0) (a .m) (a .i) (a .u) (p .1 .0) (d .draw .ensures .0),
+        no-more (a .samples .now) (a .smoothing) (p .0) (a .m) (a .i) (a .u) (p .1 .0),
+        p .0 .few,
+      );
+    }
 
 returns : tie.Need-returns
 returns c =
     let d = c .before .before .before .before in
-    let s = d .before .before .before .before .before .before in
-    let E = d .draw .ensures in
-    (E .0 ∙ ap (λ l. length l) (same s), (E .1 .0 ∙ ap line-lengths (same s), E .1 .1 .1 .0 ∙ ap line-totals (same s)))
+    let s = d .before .before .before .before .before .before .before in
+    let a = s .args in
+    let p = s .pre in
+    let E = d .draw .ensures in (
+      count (a .samples .now) (a .smoothing) (p .0) (a .m) (a .i) (a .u) (p .1 .0) (E .0),
+      (
+        begins (a .samples .now) (a .smoothing) (p .0) (a .m) (a .i) (a .u) (p .1 .0) (E .0) (λ g. g .len) (a .lengths .now) _ _ (p .1 .1 .0) (p .1 .1 .1 .1 .0) (E .1 .0),
+        begins (a .samples .now) (a .smoothing) (p .0) (a .m) (a .i) (a .u) (p .1 .0) (E .0) (λ g. g .total) (a .totals .now) _ _ (p .1 .1 .1 .0) (p .1 .1 .1 .1 .1)
+            (E .1 .1 .1),
+      ),
+    )
 
 pub finish-spec : {M : Type 1} → statement M
-finish-spec = tie.close (tie.spec slice-aggregate-draw slice-aggregate-draw-2 draw-requires same-length same-length-2 returns)
+finish-spec =
+    tie.close
+    (tie.spec
+    mul-draw
+    (λ c. inside (c .before))
+    (λ c. inside (c .before))
+    (λ c. search needs)
+    (λ c. search needs)
+    mul-draw-2
+    (λ c. in-lengths (c .before .before .before))
+    (λ c. in-lengths (c .before .before .before))
+    (λ c. search needs)
+    (λ c. search needs)
+    mul-draw-3
+    (λ c. in-totals (c .before .before .before .before .before))
+    (λ c. in-totals (c .before .before .before .before .before))
+    (λ c. search needs)
+    draw-requires
+    add-result
+    (λ c. search needs)
+    (λ c. search needs)
+    returns)

@@ -173,7 +173,7 @@ returns c =
     let D = DrawLaws.told _ _ _ (ok (b l)) (l .loop .lengths) (l .loop .divisors) (l .loop .totals) (s l) (K l) (c .before .before .before .before .before .before .before .before .before .before .if1 .left) (in-lengths l) (in-divisors l) (in-totals l)
     (ap (λ fr. line (increments (pos (fr .smoothing)) (fr .a) (fr .b) (minutesOf (a .weights .now) (a .samples .now)))) (DrawLaws.made-is _ _ (a .smoothing) (a .a) (a .b) (b l .pre .0)))
     (lengths-set c) (divisors-set c) (totals-set c) in
-    (D .0, (D .1 .0, ((λ h. D .1 .1 .0 (omega (arith, short l, h, same-length-2 c))), (D .1 .1 .1, (same-length c, (same-length-2 c, same-length-3 c))))))
+    (D .0, (D .1 .0, ((λ h. D .1 .1 .0 (omega (arith, short l, h, same-length-2 c))), D .1 .1 .1)))
 
 pub draw-spec : {M : Type 1} → statement M
 draw-spec =
