@@ -1,12 +1,16 @@
--- The known lines of RULES 2.6, those with a star: over one table, by computing the machine, and by computing the taut string.
+-- The known lines of RULES 2.6, those with a star: over one table, by computing the machine, and by computing the taut string. And what is final of a few
+-- series that may go on.
 use mathlib.Core.Path.{_≡_, refl}
 use mathlib.Core.List.{List, [], _∷_, map}
 use Prim.Native.Nat.{ℕ}
+use lib.ListN.{length}
 use lib.IntN.{ℤ, pos, negℤ, _*ℤ_}
 use Rattle.optimality.specs.Series.{plain}
 use Rattle.optimality.specs.Conditions.{dual}
 use Rattle.optimality.specs.Segments.{Segment, numerators}
 use Rattle.optimality.specs.Machine.{plain-increments, plain-line, step, run, line}
+use Rattle.optimality.specs.TenSteps.{next}
+use Rattle.optimality.specs.Finalized.{run-until, pieces, run-open, finalized}
 use Rattle.optimality.specs.TautString.{bottom, rest, drop-first, pool, fill, falls, scan, taut-line}
 
 pub record Row : Type 0 where
@@ -50,3 +54,26 @@ known-taut-lines = refl
 pub known-dual : let ys = pos 0 ∷ pos 10 ∷ [] in dual (pos 2) (pos 0) (plain ys) (numerators 2 (plain-line (pos 5) ys)) 1 ≡ pos 2 *ℤ negℤ (pos 5)
 unfolding line run step dual plain numerators
 known-dual = refl
+
+-- ---- while more samples may come
+-- the first of two samples is a final segment where they are more than three times the smoothing apart
+abbrev pub open-table : List Row
+open-table =
+    row [] (pos 1) []
+    ∷ row (pos 7 ∷ []) (pos 0) []
+    ∷ row (pos 0 ∷ pos 3 ∷ []) (pos 1) []
+    ∷ row (pos 0 ∷ pos 12 ∷ []) (pos 4) []
+    ∷ row (pos 0 ∷ pos 13 ∷ []) (pos 4) (seg 1 (pos 4) ∷ [])
+    ∷ row (pos 13 ∷ pos 0 ∷ []) (pos 4) (seg 1 (pos 9) ∷ [])
+    ∷ row (pos 0 ∷ pos 3 ∷ pos 0 ∷ []) (pos 1) []
+    ∷ row (pos 0 ∷ pos 2 ∷ pos 5 ∷ []) (pos 1) (seg 1 (pos 1) ∷ seg 1 (pos 2) ∷ [])
+    ∷ []
+
+pub known-finalized : map (λ r. finalized (plain-increments (r .smoothing) (r .samples))) open-table ≡ map (λ r. r .segments) open-table
+unfolding finalized run-open step
+known-finalized = refl
+
+-- as many are set by the steps as printed
+pub known-pieces : map (λ r. length (pieces (r .smoothing) (r .samples))) open-table ≡ map (λ r. length (r .segments)) open-table
+unfolding pieces run-until next
+known-pieces = refl

@@ -7,6 +7,7 @@ pub mod Cost
 pub mod Minimum
 pub mod Machine
 pub mod TenSteps
+pub mod Finalized
 pub mod TautString
 -- Laws: what meets the conditions is the minimum, and the only one.
 pub mod ConditionsLaws
@@ -36,6 +37,9 @@ pub mod FractionLaws
 pub mod SameValues
 pub mod TenStepsLaws
 pub mod TenStepsLine
+-- Laws: the segments that are final while more samples may come.
+pub mod FinalizedLaws
+pub mod FinalizedPrinted
 -- Laws: the taut string gives the same line, in linear time.
 pub mod Fall
 pub mod ClosedTube

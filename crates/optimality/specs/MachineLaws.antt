@@ -60,7 +60,7 @@ onward-less N i k i′ k′ e f h = rw e (omega arith)
 closed-less : (N i k i′ k′ : ℕ) → i < i′ → i′ < N → (N - i′) * suc N + (N - k′) < (N - i) * suc N + (N - k)
 closed-less N i k i′ k′ h l = let m : suc (N - i′) ≤ N - i = omega arith in omega (arith, mul-le-mul-right (suc N) m)
 
-start-less : (N : ℕ) → (N - 0) * suc N + (N - 1) < suc (N * suc N + N)
+pub start-less : (N : ℕ) → (N - 0) * suc N + (N - 1) < suc (N * suc N + N)
 start-less N = let h : N - 0 ≤ N = omega arith in omega (arith, mul-le-mul-right (suc N) h)
 
 module _ (d : Increments) (r : ValidIncrements d) where
@@ -109,7 +109,7 @@ module _ (d : Increments) (r : ValidIncrements d) where
     final-after h t8 t9 e8 e9 = good-after first (S .z) s (final d s t8 t9) (final-good d r first (S .z) s (S .inv) tt h t8 t9 e8 e9)
 
   -- ---- fuel: as much as is left, and one
-  follow-same : (s : State) (f g : State → List Segment) → ((s′ : State) → Sound d s′ → left d s′ < left d s → f s′ ≡ g s′) → (o : Out) → After d s o →
+  pub follow-same : (s : State) (f g : State → List Segment) → ((s′ : State) → Sound d s′ → left d s′ < left d s → f s′ ≡ g s′) → (o : Out) → After d s o →
       follow f o ≡ follow g o
   follow-same s f g h (on s′) A = h s′ (A .sound) (A .less)
   follow-same s f g h (emit x s′) A = ap (λ l. x ∷ l) (h s′ (A .sound) (A .less))

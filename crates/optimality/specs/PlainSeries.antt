@@ -72,7 +72,11 @@ line-lengths ss = map (λ s. s .len) ss
 abbrev pub line-totals : List Segment → List ℤ
 line-totals ss = map (λ s. s .total) ss
 
-as-lists : (ys : List ℤ) (ss : List Segment) → total-length ss ≤ length ys → Weighed (plain ys) ss → ss ≡ segments (line-lengths ss) (line-totals ss)
+-- segments that are as the two lists tell them: each has its length for divisor
+abbrev pub AsLists : List Segment → Type 0
+AsLists ss = ss ≡ segments (line-lengths ss) (line-totals ss)
+
+as-lists : (ys : List ℤ) (ss : List Segment) → total-length ss ≤ length ys → Weighed (plain ys) ss → AsLists ss
 unfolding Weighed segments total-length
 as-lists ys [] l w = refl
 as-lists ys (s ∷ ss) l w =
@@ -82,8 +86,24 @@ as-lists ys (s ∷ ss) l w =
     go : pos (s .divisor) ≡ pos (s .len) → s ≡ record { len = s .len; divisor = s .len; total = s .total }
     go e = let d : s .divisor ≡ s .len = cc in λ i. record { len = s .len; divisor = d i; total = s .total }
 
-pub formed-lists : (ys : List ℤ) (ss : List Segment) → WellFormed (plain ys) ss → ss ≡ segments (line-lengths ss) (line-totals ss)
+pub formed-lists : (ys : List ℤ) (ss : List Segment) → WellFormed (plain ys) ss → AsLists ss
 formed-lists ys ss f = as-lists ys ss (omega (arith, f .long, length-plain ys)) (f .weighed)
+
+-- some of them
+pub as-lists-first : (g : Segment) (ss : List Segment) → AsLists (g ∷ ss) → (g .divisor ≡ g .len) × AsLists ss
+unfolding segments
+as-lists-first g ss e = (cc, cc)
+
+pub as-lists-drop : (m : ℕ) (ss : List Segment) → AsLists ss → AsLists (drop m ss)
+as-lists-drop zero ss e = e
+as-lists-drop (suc m) [] e = e
+as-lists-drop (suc m) (g ∷ ss) e = as-lists-drop m ss (as-lists-first g ss e .1)
+
+pub as-lists-take : (m : ℕ) (ss : List Segment) → AsLists ss → AsLists (take m ss)
+unfolding segments
+as-lists-take zero ss e = refl
+as-lists-take (suc m) [] e = refl
+as-lists-take (suc m) (g ∷ ss) e = let a = as-lists-first g ss e in let i = as-lists-take m ss (a .1) in cc
 
 lists-back : (ns : List ℕ) (ts : List ℤ) → length ns ≡ length ts → (line-lengths (segments ns ts) ≡ ns) × (line-totals (segments ns ts) ≡ ts)
 unfolding segments

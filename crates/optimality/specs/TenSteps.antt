@@ -97,7 +97,7 @@ pub data Then : Type 0 where
   set : Piece → Step → Values → Then
   end : Piece → Then
 
-abbrev continue : (Step → Values → List Piece) → Then → List Piece
+abbrev pub continue : (Step → Values → List Piece) → Then → List Piece
 continue rest (go s v) = rest s v
 continue rest (set x s v) = x ∷ rest s v
 continue rest (end x) = x ∷ []

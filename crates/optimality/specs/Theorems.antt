@@ -1,8 +1,8 @@
 -- What is proved of the line of a plain series, in one place: it meets (6) and (7), it alone does, it is the minimum (RULES 2.3, 2.5), its
 -- totals add up to the samples, its levels stay in the samples' range, the ten steps as the paper prints them write it, and the taut string draws it in at
--- most four steps a minute.
+-- most four steps a minute. The segments that are final while more samples may come begin the line of every longer series (RULES 10).
 use mathlib.Core.Path.{_≡_, sym, subst}
-use mathlib.Core.List.{List}
+use mathlib.Core.List.{List, _++_}
 use Prim.Native.Nat.{ℕ, _*_, _<_, _≤_}
 use lib.ListN.{length}
 use lib.IntN.{ℤ, pos}
@@ -22,6 +22,9 @@ use Rattle.optimality.specs.SampleRange.{Within, in-range}
 use Rattle.optimality.specs.Correctness.{plain-correct}
 use Rattle.optimality.specs.TenSteps.{solution}
 use Rattle.optimality.specs.TenStepsLine.{Writes, printed-line}
+use Rattle.optimality.specs.Finalized.{pieces, finalized, Begins}
+use Rattle.optimality.specs.FinalizedLaws.{begins-line, begins-finalized}
+use Rattle.optimality.specs.FinalizedPrinted.{printed-finalized}
 use Rattle.optimality.specs.TautString.{taut-line}
 use Rattle.optimality.specs.TautCorrectness.{plain-fast-line}
 use Rattle.optimality.specs.TautWork.{work, linear}
@@ -49,6 +52,17 @@ module _ (L : ℤ) (ys : List ℤ) (some : 0 < length ys) (smooth : pos 0 ⩽ L)
   -- the ten steps as printed
   pub printed : Writes 0 (solution L ys) (plain-line L ys)
   printed = printed-line L ys some smooth
+
+  -- the segments that are final stay, whatever comes after
+  pub final : (zs : List ℤ) → Begins (finalized (plain-increments L ys)) (plain-line L (ys ++ zs))
+  final zs = begins-line L ys zs smooth
+
+  pub final-longer : (zs : List ℤ) → Begins (finalized (plain-increments L ys)) (finalized (plain-increments L (ys ++ zs)))
+  final-longer zs = begins-finalized L ys zs smooth
+
+  -- and the ten steps as printed set them
+  pub printed-final : Writes 0 (pieces L ys) (finalized (plain-increments L ys))
+  printed-final = printed-finalized L ys smooth
 
   -- the taut string
   pub taut : taut-line (plain-increments L ys) ≡ plain-line L ys
