@@ -1,10 +1,10 @@
--- Where refusals stand: a number is at most 13, and a place counts minutes, segments or bytes, so that it is at most as many as there are.
+-- Where refusals stand: a number is below 256, and a place counts minutes, segments or bytes, so that it is at most as many as there are.
 use mathlib.Core.Path.{_≡_, refl, sym}
 use mathlib.Core.Bool.{Bool, true, false}
 use mathlib.Core.List.{List, [], _∷_}
 use mathlib.Core.Option.{Option, none, some}
 use native.Mathlib.Omega.{arith}
-use Prim.Native.Nat.{ℕ, suc, _+_, _≤_}
+use Prim.Native.Nat.{ℕ, suc, _+_, _<_, _≤_}
 use lib.Dec.{eqb, ltb}
 use lib.ListN.{length}
 use lib.IntN.{ℤ}
@@ -12,13 +12,13 @@ use borrow.Author.Tests.{ltb-false}
 use Rattle.level.specs.Answer.{Answer, refused, given, refuse-if, refuse-at}
 use Rattle.optimality.specs.Search.{found}
 use Rattle.series.specs.Search.{first-from}
-use Rattle.series.specs.Limits.{bad-sample, in-limits}
+use Rattle.series.specs.Limits.{bad-sample, in-bounds, in-limits}
 use Rattle.series.proofs.Refusals.{never}
 
--- a refusal's number is at most 13, and its place at most `most`
+-- a refusal's number is below 256, and its place at most `most`
 pub data Placed {A : Type 0} (most : ℕ) : Answer A → Type 0 where
   unrefused : {x : A} → Placed most (given x)
-  placed : {number place : ℕ} → number ≤ 13 → place ≤ most → Placed most (refused number place)
+  placed : {number place : ℕ} → number < 256 → place ≤ most → Placed most (refused number place)
 
 pub place-most : {A : Type 0} {most number place : ℕ} {a : Answer A} → Placed most a → a ≡ refused number place → place ≤ most
 place-most unrefused e = never (sym e)
@@ -31,7 +31,7 @@ pub data Upto (most : ℕ) : Option ℕ → Type 0 where
 
 module _ {most : ℕ} where
   -- ---- one refusal, and what comes after it where it is not due
-  module _ {A : Type 0} {rest : Answer A} {number : ℕ} (small : number ≤ 13) where
+  module _ {A : Type 0} {rest : Answer A} {number : ℕ} (small : number < 256) where
     pub if-placed : {place : ℕ} (t : Bool) → place ≤ most → (t ≡ false → Placed most rest) → Placed most (refuse-if t number place rest)
     if-placed true h p = placed small h
     if-placed false h p = p refl
@@ -51,11 +51,14 @@ module _ {most : ℕ} where
   first-upto picks i (x ∷ xs) h = found-upto (picks x) i (omega arith) (first-upto picks (suc i) xs (omega arith))
 
   -- ---- the tests of a series
+  pub bounds-placed : {A : Type 0} {rest : Answer A} (minutes : ℕ) (ys : List ℤ) (L : ℕ) → 65536 ≤ most → length ys ≤ minutes →
+      (minutes ≤ 65536 → Placed most rest) → Placed most (in-bounds minutes ys L rest)
+  bounds-placed minutes ys L h l p =
+      if-placed (omega arith) (ltb 65536 minutes) (omega arith) (λ few.
+      let n = ltb-false 65536 minutes few in
+      if-placed (omega arith) (ltb 1099511627776 L) (omega arith) (λ _.
+      at-placed (omega arith) (first-upto bad-sample 1 ys (omega arith)) (p n)))
+
   pub limits-placed : {A : Type 0} {rest : Answer A} (ys : List ℤ) (L : ℕ)
       → 65536 ≤ most → (length ys ≤ 65536 → Placed most rest) → Placed most (in-limits ys L rest)
-  limits-placed ys L h p =
-      if-placed (omega arith) (eqb (length ys) 0) (omega arith) (λ _.
-      if-placed (omega arith) (ltb 65536 (length ys)) (omega arith) (λ few.
-      let n = ltb-false 65536 (length ys) few in
-      if-placed (omega arith) (ltb 1099511627776 L) (omega arith) (λ _.
-      at-placed (omega arith) (first-upto bad-sample 1 ys (omega arith)) (p n))))
+  limits-placed ys L h p = if-placed (omega arith) (eqb (length ys) 0) (omega arith) (λ _. bounds-placed (length ys) ys L h (omega arith) p)

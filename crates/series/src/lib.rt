@@ -6,7 +6,7 @@ ghost use lib.ListN.{drop};
 ghost use Rattle.level.specs.Answer.{given};
 ghost use Rattle.series.specs.Search.{place-of, first-from, first, is-none};
 ghost use Rattle.series.specs.Answer.{checked};
-ghost use Rattle.series.specs.Limits.{bad-sample, in-limits};
+ghost use Rattle.series.specs.Limits.{bad-sample, in-bounds, in-limits};
 use level::Level;
 
 pub mod inner;
@@ -39,7 +39,14 @@ pub fn limits(samples: &[i32], smoothing: u64) -> Checked
     if samples.len() == 0 {
         return Checked::Refused(1, 0);
     }
-    if samples.len() > MINUTES {
+    bounds(samples.len(), samples, smoothing)
+}
+
+// 2, 4 and 3 for a series of so many minutes, of which these samples are at hand.
+pub fn bounds(minutes: usize, samples: &[i32], smoothing: u64) -> Checked
+    ensures answer { λ r. ⌜ checked r ≡ in-bounds minutes (now (samples .entry)) smoothing (given tt) ⌝ }
+{
+    if minutes > MINUTES {
         return Checked::Refused(2, 0);
     }
     if smoothing > SMOOTHING {
