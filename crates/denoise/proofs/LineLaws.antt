@@ -1,13 +1,12 @@
 -- What `line` leaves in the lists (RULES 2.3, 2.5): the first entries are the one line of the series that meets (6) and (7), no rival costs less, and
 -- every later entry is what it was.
-use mathlib.Core.Path.{_≡_, refl, sym, ap, ap₂, _∙_, subst}
+use mathlib.Core.Path.{_≡_, refl, sym, ap, _∙_, subst}
 use mathlib.Core.Bool.{_||_}
-use mathlib.Core.List.{List, map}
+use mathlib.Core.List.{List}
 use Prim.Native.Nat.{ℕ, _≤_}
 use lib.Dec.{ltb}
 use borrow.Author.Tests.{ltb-false}
 use lib.ListN.{length, take, drop, length-map}
-use lib.Seq.{take-at, drop-at}
 use lib.IntN.{ℤ, pos}
 use Rattle.integers.specs.Order.{0⩽pos}
 use Rattle.optimality.specs.Series.{plain, Limited}
@@ -23,19 +22,13 @@ use Rattle.series.specs.Answer.{refill, passing}
 use Rattle.denoise.specs.Line.{drawableOf, lineOf, lengthsOf, totalsOf}
 use Rattle.series.specs.Optimality.{Meets, Only, Least}
 use Rattle.series.proofs.Refusals.{never, same-given, if-past, Alike, pass, if-alike, stopped, passed}
+use Rattle.series.proofs.AnswerLaws.{first-entries, held}
 use Rattle.series.proofs.OptimalityLaws.{line-meets, meets-line, line-least}
 use Rattle.series.proofs.LimitsLaws.{limits-given, limits-alike}
 
 module _ (ys : List ℤ) (L : ℕ) (ns : List ℕ) (ts : List ℤ) (m : ℕ) (e : lineOf ys L ns ts ≡ given m) where
   abbrev l : List Segment
   l = plain-line (pos L) ys
-
-  first-list : {A : Type 0} (f : Segment → A) (old new : List A) → m ≡ length l → new ≡ refill (map f l) old →
-      (take m new ≡ map f l) × (drop m new ≡ drop m old)
-  unfolding refill
-  first-list f old new k h =
-      let n : length (map f l) ≡ m = length-map l f ∙ sym k in
-      (ap (take m) h ∙ take-at (map f l) _ m n, ap (drop m) h ∙ drop-at (map f l) _ m n ∙ ap (λ j. drop j old) n)
 
   pub lists : Limited ys L × (m ≡ length l)
   lists =
@@ -44,24 +37,24 @@ module _ (ys : List ℤ) (L : ℕ) (ns : List ℕ) (ts : List ℤ) (m : ℕ) (e 
       (p .0, sym (same-given (q .1)))
 
   pub lengths-are : (take m (lengthsOf ys L ns ts) ≡ line-lengths l) × (drop m (lengthsOf ys L ns ts) ≡ drop m ns)
-  lengths-are = first-list (λ s. s .len) ns (lengthsOf ys L ns ts) (lists .1) (rw e)
+  lengths-are = first-entries (λ s. s .len) l m ns (lists .1) (rw e)
 
   pub totals-are : (take m (totalsOf ys L ns ts) ≡ line-totals l) × (drop m (totalsOf ys L ns ts) ≡ drop m ts)
-  totals-are = first-list (λ s. s .total) ts (totalsOf ys L ns ts) (lists .1) (rw e)
+  totals-are = first-entries (λ s. s .total) l m ts (lists .1) (rw e)
 
   -- the line that the lists then hold
   abbrev ss : List Segment
   ss = segments (take m (lengthsOf ys L ns ts)) (take m (totalsOf ys L ns ts))
 
-  held : l ≡ ss
-  held = formed-lists ys l (Theorems.meets (pos L) ys (lists .0 .some) (0⩽pos L) .formed) ∙ sym (ap₂ segments (lengths-are .0) (totals-are .0))
+  line-held : l ≡ ss
+  line-held = sym (held l m ns ts (lists .1) (formed-lists ys l (Theorems.meets (pos L) ys (lists .0 .some) (0⩽pos L) .formed)) (rw e) (rw e))
 
   pub line-is : IsLine (pos L) (pos 0) (pos 0) (plain ys) ss
-  line-is = subst (λ s. IsLine (pos L) (pos 0) (pos 0) (plain ys) s) held (Theorems.meets (pos L) ys (lists .0 .some) (0⩽pos L))
+  line-is = subst (λ s. IsLine (pos L) (pos 0) (pos 0) (plain ys) s) line-held (Theorems.meets (pos L) ys (lists .0 .some) (0⩽pos L))
 
   -- Condat's ten steps as printed write it
   pub printed : Writes 0 (solution (pos L) ys) ss
-  printed = subst (Writes 0 (solution (pos L) ys)) held (Theorems.printed (pos L) ys (lists .0 .some) (0⩽pos L))
+  printed = subst (Writes 0 (solution (pos L) ys)) line-held (Theorems.printed (pos L) ys (lists .0 .some) (0⩽pos L))
 
   pub meets : Meets ys L ss
   meets = line-meets ys L ss line-is

@@ -1,6 +1,7 @@
 -- What the loop of `tracing::trace` keeps: the segments that are left, filled in from here on, give the dual of the whole line.
 -- They can be filled in, as all of the line can: its lengths add up, its totals are in the samples' range, and each segment begins at a touch.
 use mathlib.Core.Path.{_≡_, refl, sym, _∙_, ap, ap₂, subst}
+use mathlib.Core.Bool.{false}
 use mathlib.Core.List.{List, [], _∷_}
 use native.Mathlib.Omega.{arith}
 use Prim.Native.Nat.{ℕ, zero, suc, _+_, _-_, _<_, _≤_}
@@ -12,7 +13,7 @@ use Rattle.integers.specs.Linear.{int}
 use Rattle.optimality.specs.Segments.{Segment, total-length, Proper}
 use Rattle.optimality.specs.SmallNumbers.{sample-small}
 use Rattle.optimality.specs.Series.{plain, Limited}
-use Rattle.optimality.specs.PlainSeries.{length-plain, segments, line-lengths, line-totals, formed-lists}
+use Rattle.optimality.specs.PlainSeries.{length-plain, segments, line-lengths, line-totals, AsLists, as-lists-first, as-lists-take, as-lists-drop, formed-lists}
 use Rattle.optimality.specs.SampleRange.{Within}
 use Rattle.optimality.specs.Machine.{Increments, State, Out, on, emit, stop, follow, step, run, plain-line}
 use Rattle.optimality.specs.MachineLaws.{Sound, After, left, lines, facts, step-after}
@@ -32,25 +33,6 @@ use Rattle.denoise.proofs.VariableLaws.{suc-before, valid}
 use Rattle.denoise.proofs.StoreLaws.{take-sets}
 use Rattle.denoise.proofs.DualBound.{StartsWithin, line-starts-within}
 use Rattle.denoise.proofs.FillAllLoop.{duals-short, filledAll, fill-first}
-
--- ---- segments that are as two lists tell them: each has its length for divisor
-abbrev AsLists : List Segment → Type 0
-AsLists l = l ≡ segments (line-lengths l) (line-totals l)
-
-as-lists-first : (g : Segment) (l : List Segment) → AsLists (g ∷ l) → (g .divisor ≡ g .len) × AsLists l
-unfolding segments
-as-lists-first g l e = (cc, cc)
-
-as-lists-drop : (m : ℕ) (l : List Segment) → AsLists l → AsLists (drop m l)
-as-lists-drop zero l e = e
-as-lists-drop (suc m) [] e = e
-as-lists-drop (suc m) (g ∷ l) e = as-lists-drop m l (as-lists-first g l e .1)
-
-as-lists-take : (m : ℕ) (l : List Segment) → AsLists l → AsLists (take m l)
-unfolding segments
-as-lists-take zero l e = refl
-as-lists-take (suc m) [] e = refl
-as-lists-take (suc m) (g ∷ l) e = let a = as-lists-first g l e in let i = as-lists-take m l (a .1) in cc
 
 -- m of them, where they were written to two lists
 written : (m : ℕ) (ns : List ℕ) (ts : List ℤ) (l : List Segment) → m ≤ length ns → m ≤ length ts → length l ≡ m → AsLists l →
@@ -126,7 +108,7 @@ module _ (ys : List ℤ) (smoothing : ℕ) where
     run-some (suc f) s S h = follow-some s (λ s′. run d f s′) (λ s′ S′ l. run-some f s′ S′ (omega arith)) (step d s) (step-after d (valid ys smoothing W) S)
 
     module _ {r : Variables} (G : Good ys smoothing r) where
-      rest-some : 0 < length (rest ys smoothing r)
+      rest-some : 0 < length (rest ys smoothing false r)
       unfolding lines
       rest-some = run-some (suc (left d (stateOf r))) (stateOf r) (G .sound) (omega arith)
 
@@ -141,13 +123,13 @@ module _ (ys : List ℤ) (smoothing : ℕ) where
       pub totals : length ts ≡ 128
       pub starts : Starts ys smoothing r
       pub long : length out ≡ length out₀
-      pub as-lists : AsLists (rest ys smoothing r)
-      pub fillable : FillsAll ys o (rest ys smoothing r)
-      pub fills : filledAll ys out o (rest ys smoothing r) ≡ filledAll ys out₀ first line
+      pub as-lists : AsLists (rest ys smoothing false r)
+      pub fillable : FillsAll ys o (rest ys smoothing false r)
+      pub fills : filledAll ys out o (rest ys smoothing false r) ≡ filledAll ys out₀ first line
 
     module _ (W : Limited ys smoothing) where
       pub tracing-first : (ns : List ℕ) (ts : List ℤ) → length ns ≡ 128 → length ts ≡ 128 → (r : Variables) → Starts ys smoothing r →
-          rest ys smoothing r ≡ line → Tracing ns ts out₀ r first
+          rest ys smoothing false r ≡ line → Tracing ns ts out₀ r first
       tracing-first ns ts h k r S e =
           let F = Theorems.meets (pos smoothing) ys (W .some) (0⩽pos smoothing) .formed in
           let l = formed-lists ys line F in
@@ -164,19 +146,19 @@ module _ (ys : List ℤ) (smoothing : ℕ) where
 
       module _ {ns : List ℕ} {ts : List ℤ} {out : List ℤ} {r : Variables} {o : Origin} (K : Tracing ns ts out r o) where
         abbrev l : List Segment
-        l = rest ys smoothing r
+        l = rest ys smoothing false r
 
         pub fits : Fits ys 126 ns ts
         fits = record { room = λ m h k. (omega (arith, K .lengths), omega (arith, K .totals)) }
 
         -- so many were left
-        count : (m : ℕ) (n : Next) → Reached ys smoothing r 126 m n → m ≤ length l
+        count : (m : ℕ) (n : Next) → Reached ys smoothing false r 126 m n → m ≤ length l
         count m Next.Done e = omega (arith, e)
         count m (Next.At q) P = omega (arith, length-drop m l, ap length (P .rest), rest-some W (P .good))
 
         -- a walk over the two lists, which then hold the segments that it gave
         module _ (w : Walked) {ns′ : List ℕ} {ts′ : List ℤ}
-            (H : Walks ys smoothing r 126 (length ns) w × ((ns′ ≡ sets ns 0 (line-lengths (take (w .segments) l)))
+            (H : Walks ys smoothing false r 126 (length ns) w × ((ns′ ≡ sets ns 0 (line-lengths (take (w .segments) l)))
             × (ts′ ≡ sets ts 0 (line-totals (take (w .segments) l))))) where
           abbrev m : ℕ
           m = w .segments
@@ -204,8 +186,8 @@ module _ (ys : List ℤ) (smoothing : ℕ) where
 
           -- more comes from q on
           module _ (q : Variables) (e : w .next ≡ Next.At q) where
-            at : Pauses ys smoothing r 126 m q
-            at = subst (Reached ys smoothing r 126 m) e (H .0 .reached)
+            at : Pauses ys smoothing false r 126 m q
+            at = subst (Reached ys smoothing false r 126 m) e (H .0 .reached)
 
             pub tracing-less : length ys - q .k0 < length ys - r .k0
             tracing-less = omega (arith, at .spent, at .further, stands-within W (at .good))
@@ -224,7 +206,7 @@ module _ (ys : List ℤ) (smoothing : ℕ) where
           -- that was all
           pub traced : w .next ≡ Next.Done → length ys ≤ length out₀ → filledAll ys out o given ≡ refill (duals (pos 0) (plain ys) line) out₀
           traced e h =
-              let all = subst (Reached ys smoothing r 126 m) e (H .0 .reached) in
+              let all = subst (Reached ys smoothing false r 126 m) e (H .0 .reached) in
               ap (filledAll ys out o) (given-is ∙ take-all m l (omega (arith, all)))
               ∙ K .fills
               ∙ sets-refill (duals (pos 0) (plain ys) line) out₀ (omega (arith, duals-short (pos 0) (plain ys) line, length-plain ys))

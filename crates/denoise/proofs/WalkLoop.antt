@@ -1,5 +1,6 @@
 -- What the loops of `walk::walk` keep: the segments that are left, written from here on, give the lists that the whole walk gives.
 use mathlib.Core.Path.{_≡_, refl, sym, _∙_, ap, subst}
+use mathlib.Core.Bool.{Bool, true, false, true≢false}
 use mathlib.Core.Logic.{_⊎_, inl, inr, ⊎-elim}
 use mathlib.Core.List.{List, [], _∷_, map}
 use native.Mathlib.Omega.{arith}
@@ -11,12 +12,14 @@ use lib.Seq.{sets, length-sets, drop-drop}
 use lib.IntN.{ℤ, pos}
 use Rattle.optimality.specs.Series.{Limited}
 use Rattle.optimality.specs.Segments.{Segment}
-use Rattle.optimality.specs.Machine.{Increments, State, Out, on, emit, stop, begin, step, plain-line}
-use Rattle.optimality.specs.MachineLaws.{left, lines, line-lines}
+use Rattle.optimality.specs.Machine.{Increments, State, Out, on, emit, stop, begin, step}
+use Rattle.optimality.specs.MachineLaws.{left, line-lines}
+use Rattle.optimality.specs.Finalized.{plain-segments}
+use Rattle.optimality.specs.FinalizedLaws.{open-end, finalized-open}
 use Rattle.optimality.specs.PlainSeries.{line-lengths, line-totals}
 use Rattle.optimality.specs.TenStepsLine.{calm8, calm9}
 use Rattle.denoise.specs.Variables.{dataOf, stateOf, variablesOf, cutOf}
-use Rattle.denoise.specs.Walk.{as-segment, doneOf, pausedOf, ScanIs, FinishIs, Good, rest, Starts, Reached, Walks, Fits}
+use Rattle.denoise.specs.Walk.{as-segment, doneOf, pausedOf, ScanIs, FinishIs, Good, onward, rest, Starts, Reached, Walks, Fits}
 use Rattle.denoise.specs.declared.steps.Variables.{Variables}
 use Rattle.denoise.specs.declared.steps.Span.{Span}
 use Rattle.denoise.specs.declared.walk.Scanned.the-variants as Scanned
@@ -36,7 +39,7 @@ stored f (suc m) (x ∷ l) {g} i xs e =
     let q : i + suc m ≡ suc i + m = omega arith in
     ap (λ k. set (sets (set xs i (f x)) (suc i) (map f (take m l))) k (f g)) q ∙ stored f m l (suc i) (set xs i (f x)) e
 
-module _ (ys : List ℤ) (smoothing : ℕ) where
+module _ (ys : List ℤ) (smoothing : ℕ) (running : Bool) where
   abbrev d : Increments
   d = dataOf ys smoothing
 
@@ -45,7 +48,7 @@ module _ (ys : List ℤ) (smoothing : ℕ) where
     pub good : Good ys smoothing q
     pub same : q .k0 ≡ r .k0
     pub less : left d (stateOf q) < left d (stateOf r)
-    pub rest : rest ys smoothing q ≡ rest ys smoothing r
+    pub rest : rest ys smoothing running q ≡ rest ys smoothing running r
 
   pub record Emits (r : Variables) (p : Span) (q : Variables) : Type 0 where
     pub good : Good ys smoothing q
@@ -53,18 +56,22 @@ module _ (ys : List ℤ) (smoothing : ℕ) where
     pub further : r .k0 < q .k0
     pub one : q .k ≡ q .k0
     pub less : left d (stateOf q) < left d (stateOf r)
-    pub rest : rest ys smoothing r ≡ as-segment p ∷ rest ys smoothing q
+    pub rest : rest ys smoothing running r ≡ as-segment p ∷ rest ys smoothing running q
 
   pub record Stops (r : Variables) (p : Span) : Type 0 where
     pub short : p .len ≤ length ys
-    pub rest : rest ys smoothing r ≡ as-segment p ∷ []
+    pub rest : rest ys smoothing running r ≡ as-segment p ∷ []
 
   module _ (W : Limited ys smoothing) {r : Variables} (G : Good ys smoothing r) where
     abbrev s : State
     s = stateOf r
 
-    emits : (g : Segment) (t : State) (p : Span) (q : Variables) → step d s ≡ emit g t → (as-segment p ≡ g) × (q ≡ variablesOf t) × (q .k ≡ q .k0) → Emits r p q
-    emits g t p q e F =
+    -- steps 8 to 10 are for a series that has ended
+    ended-first : running ≡ false → running ≡ true → r .k < length ys
+    ended-first h e = absurd (true≢false (sym e ∙ h))
+
+    emits : (running ≡ true → r .k < length ys) → (g : Segment) (t : State) (p : Span) (q : Variables) → step d s ≡ emit g t → (as-segment p ≡ g) × (q ≡ variablesOf t) × (q .k ≡ q .k0) → Emits r p q
+    emits h g t p q e F =
         let A = after ys smoothing W G (emit g t) e in
         let f = F .0 in
         subst (Emits r p) (sym (F .1))
@@ -74,16 +81,16 @@ module _ (ys : List ℤ) (smoothing : ℕ) where
           further = omega (arith, A .further, suc-before (r .k0) (G .first));
           one = rw (F .1) at (F .2);
           less = A .less;
-          rest = told ys smoothing W G (emit g t) e ∙ ap (λ g. g ∷ lines d t) (sym f);
+          rest = told ys smoothing W G running h (emit g t) e ∙ ap (λ g. g ∷ onward ys smoothing running t) (sym f);
         })
 
-    stops : (g : Segment) (p : Span) → step d s ≡ stop g → as-segment p ≡ g → Stops r p
-    stops g p e f =
+    stops : running ≡ false → (g : Segment) (p : Span) → step d s ≡ stop g → as-segment p ≡ g → Stops r p
+    stops h g p e f =
         let A = after ys smoothing W G (stop g) e in
-        record { short = omega (arith, A, ap (λ g. g .len) f); rest = told ys smoothing W G (stop g) e ∙ ap (λ g. g ∷ []) (sym f) }
+        record { short = omega (arith, A, ap (λ g. g .len) f); rest = told ys smoothing W G running (ended-first h) (stop g) e ∙ ap (λ g. g ∷ []) (sym f) }
 
-    pub scanned-on : {q : Variables} → ScanIs (Scanned.On q) (step d s) → Goes r q
-    scanned-on {q} = go (step d s) refl
+    pub scanned-on : r .k < length ys → {q : Variables} → ScanIs (Scanned.On q) (step d s) → Goes r q
+    scanned-on l {q} = go (step d s) refl
       where
         go : (o : Out) → step d s ≡ o → ScanIs (Scanned.On q) o → Goes r q
         go (on t) e h =
@@ -93,34 +100,34 @@ module _ (ys : List ℤ) (smoothing : ℕ) where
               good = record { first = omega arith; sound = A .sound; small = small-after ys smoothing W G (on t) e };
               same = ap suc (A .same) ∙ suc-before (r .k0) (G .first);
               less = A .less;
-              rest = sym (told ys smoothing W G (on t) e);
+              rest = sym (told ys smoothing W G running (λ _. l) (on t) e);
             })
         go (emit g t) e h = absurd h
         go (stop g) e h = absurd h
 
-    pub scanned-set : {p : Span} {q : Variables} → ScanIs (Scanned.Set p q) (step d s) → Emits r p q
-    scanned-set {p} {q} = go (step d s) refl
+    pub scanned-set : r .k < length ys → {p : Span} {q : Variables} → ScanIs (Scanned.Set p q) (step d s) → Emits r p q
+    scanned-set l {p} {q} = go (step d s) refl
       where
         go : (o : Out) → step d s ≡ o → ScanIs (Scanned.Set p q) o → Emits r p q
         go (on t) e h = absurd h
-        go (emit g t) e h = emits g t p q e h
+        go (emit g t) e h = emits (λ _. l) g t p q e h
         go (stop g) e h = absurd h
 
-    pub finished-set : {p : Span} {q : Variables} → FinishIs (Finished.Set p q) (step d s) → Emits r p q
-    finished-set {p} {q} = go (step d s) refl
+    pub finished-set : running ≡ false → {p : Span} {q : Variables} → FinishIs (Finished.Set p q) (step d s) → Emits r p q
+    finished-set f {p} {q} = go (step d s) refl
       where
         go : (o : Out) → step d s ≡ o → FinishIs (Finished.Set p q) o → Emits r p q
         go (on t) e h = absurd h
-        go (emit g t) e h = emits g t p q e h
+        go (emit g t) e h = emits (ended-first f) g t p q e h
         go (stop g) e h = absurd h
 
-    pub finished-end : {p : Span} → FinishIs (Finished.End p) (step d s) → Stops r p
-    finished-end {p} = go (step d s) refl
+    pub finished-end : running ≡ false → {p : Span} → FinishIs (Finished.End p) (step d s) → Stops r p
+    finished-end f {p} = go (step d s) refl
       where
         go : (o : Out) → step d s ≡ o → FinishIs (Finished.End p) o → Stops r p
         go (on t) e h = absurd h
         go (emit g t) e h = absurd h
-        go (stop g) e h = stops g p e h
+        go (stop g) e h = stops f g p e h
 
     pub below : (r .k ≡ length ys → ⊥) → r .k < length ys
     below f = ⊎-elim (λ e. absurd (f e)) (λ l. l) (eq-or-lt-of-le (known ys smoothing W G .upto))
@@ -129,11 +136,15 @@ module _ (ys : List ℤ) (smoothing : ℕ) where
     pub no-more : r .k ≡ length ys → r .k ≡ r .k0 → {p : Span} {q : Variables} → Emits r p q → ⊥
     no-more h o E = omega (arith, E .further, suc-before _ (E .good .first), known ys smoothing W (E .good) .from, known ys smoothing W (E .good) .upto)
 
+    -- a running series waits at the last sample that has come
+    pub waits : running ≡ true → length ys ≤ r .k → rest ys smoothing running r ≡ []
+    waits e h = ap (λ t. onward ys smoothing t s) e ∙ open-end d s h
+
     -- step 2: a segment of one minute at the end passes the tests 8 and 9
-    pub stops-2 : r .k ≡ length ys → r .k ≡ r .k0 → {p : Span} → p ≡ cutOf (r .k0) (r .k) (r .mean) → Stops r p
-    stops-2 h o e =
+    pub stops-2 : running ≡ false → r .k ≡ length ys → r .k ≡ r .k0 → {p : Span} → p ≡ cutOf (r .k0) (r .k) (r .mean) → Stops r p
+    stops-2 f h o e =
         let one = o ∙ sym (suc-before (r .k0) (G .first)) in
-        stops _ _
+        stops f _ _
         (step-10 ys smoothing W G h (calm8 (pos smoothing) ys (W .some) (smooth ys smoothing W) s (G .sound) h one)
         (calm9 (pos smoothing) ys (W .some) (smooth ys smoothing W) s (G .sound) h one))
         (ap as-segment e ∙ cut-segment (r .k0) (r .k) (r .mean) (G .first))
@@ -154,7 +165,7 @@ module _ (ys : List ℤ) (smoothing : ℕ) where
   -- ---- the lists, which were a and b when the walk began at `from`, have its first m segments written in them
   module _ (from : Variables) (a : List ℕ) (b : List ℤ) where
     abbrev whole : List Segment
-    whole = rest ys smoothing from
+    whole = rest ys smoothing running from
 
     pub record Written (lengths : List ℕ) (totals : List ℤ) (m : ℕ) : Type 0 where
       pub lengths-are : lengths ≡ sets a 0 (line-lengths (take m whole))
@@ -164,11 +175,12 @@ module _ (ys : List ℤ) (smoothing : ℕ) where
       pub good : Good ys smoothing r
       pub start : 0 < from .k0
       pub ahead : from .k0 + m ≤ r .k0
-      pub parts : rest ys smoothing r ≡ drop m whole
+      pub there : m ≤ length whole
+      pub parts : rest ys smoothing running r ≡ drop m whole
       pub written : Written lengths totals m
 
     pub kept-first : Good ys smoothing from → Kept a b 0 from
-    kept-first G = record { good = G; start = G .first; ahead = omega arith; parts = refl; written = record { lengths-are = refl; totals-are = refl } }
+    kept-first G = record { good = G; start = G .first; ahead = omega arith; there = omega arith; parts = refl; written = record { lengths-are = refl; totals-are = refl } }
 
     module _ {lengths : List ℕ} {totals : List ℤ} {m : ℕ} (w : Written lengths totals m) where
       pub lengths-long : length lengths ≡ length a
@@ -200,7 +212,7 @@ module _ (ys : List ℤ) (smoothing : ℕ) where
 
       -- a minute more
       pub kept-on : (q : Variables) → Goes r q → Kept lengths totals m q
-      kept-on q E = record { good = E .good; start = K .start; ahead = rw (E .same) (K .ahead); parts = E .rest ∙ K .parts; written = K .written }
+      kept-on q E = record { good = E .good; start = K .start; ahead = rw (E .same) (K .ahead); there = K .there; parts = E .rest ∙ K .parts; written = K .written }
 
       -- a segment more
       pub kept-turn : (p : Span) (q : Variables) → Emits r p q → {n : ℕ} {l : List ℕ} {t : List ℤ} →
@@ -209,8 +221,9 @@ module _ (ys : List ℤ) (smoothing : ℕ) where
         good = E .good;
         start = K .start;
         ahead = omega (arith, K .ahead, E .further);
+        there = omega (arith, length-drop m whole, ap length (sym (E .rest) ∙ K .parts));
         parts = ap (drop 1) (sym (E .rest) ∙ K .parts) ∙ drop-drop 1 m whole;
-        written = written-more (K .written) (as-segment p) (rest ys smoothing q) (sym (K .parts) ∙ E .rest) (s .1);
+        written = written-more (K .written) (as-segment p) (rest ys smoothing running q) (sym (K .parts) ∙ E .rest) (s .1);
       }
 
       -- the last segment
@@ -220,15 +233,26 @@ module _ (ys : List ℤ) (smoothing : ℕ) where
 
         pub ended : (p : Span) → Stops r p → {w : Walked} {l : List ℕ} {t : List ℤ} →
             (w ≡ doneOf (m + 1)) × ((l ≡ set lengths m (p .len)) × (t ≡ set totals m (p .total))) →
-            Walks ys smoothing from budget (length a) w × Written l t (w .segments)
+            Walks ys smoothing running from budget (length a) w × Written l t (w .segments)
         ended p S s = rw (s .0) (
           record { fits = omega (arith, within); reached = omega (arith, length-drop m whole, ap length (sym (S .rest) ∙ K .parts)) },
           written-more (K .written) (as-segment p) [] (sym (K .parts) ∙ S .rest) (s .1),
         )
 
+        -- the next sample has not come
+        pub waited : running ≡ true → length ys ≤ r .k → {w : Walked} → w ≡ doneOf m →
+            Walks ys smoothing running from budget (length a) w × Written lengths totals (w .segments)
+        waited e l s = rw s (
+          record {
+            fits = omega (arith, within);
+            reached = omega (arith, K .there, length-drop m whole, ap length (sym (waits W (K .good) e l) ∙ K .parts));
+          },
+          K .written,
+        )
+
         -- the budget is spent
         pub stands : {spent : ℕ} → Counted m spent → budget < spent → r .k < length ys → r .k ≡ r .k0 → {w : Walked} → w ≡ pausedOf m r →
-            Walks ys smoothing from budget (length a) w × Written lengths totals (w .segments)
+            Walks ys smoothing running from budget (length a) w × Written lengths totals (w .segments)
         stands C f k o s = rw s (
           record {
             fits = omega (arith, within);
@@ -282,16 +306,21 @@ module _ (ys : List ℤ) (smoothing : ℕ) where
 
     -- a walk with so large a budget comes to the end
     pub all-written : Limited ys smoothing → Good ys smoothing from → {budget room : ℕ} → 4294967296 ≤ budget → (w : Walked) →
-        Walks ys smoothing from budget room w → w .segments ≡ length whole
+        Walks ys smoothing running from budget room w → w .segments ≡ length whole
     all-written W G {budget} h w H = go (w .next) (H .reached)
       where
-        go : (n : Next) → Reached ys smoothing from budget (w .segments) n → w .segments ≡ length whole
+        go : (n : Next) → Reached ys smoothing running from budget (w .segments) n → w .segments ≡ length whole
         go Next.Done e = e
         go (Next.At q) P = absurd (omega (arith, P .spent, P .before, P .further, P .one, W .few))
 
   -- ---- step 1
-  pub starts : Limited ys smoothing → {r : Variables} → r ≡ variablesOf (begin d 0 (pos 0)) → Starts ys smoothing r × (rest ys smoothing r ≡ plain-line (pos smoothing) ys)
+  pub starts : Limited ys smoothing → {r : Variables} → r ≡ variablesOf (begin d 0 (pos 0)) →
+      Starts ys smoothing r × (rest ys smoothing running r ≡ plain-segments running (pos smoothing) ys)
   starts W e = (
     subst (Starts ys smoothing) (sym e) (record { good = begin-good ys smoothing W 0 (pos 0) (W .some) (omega arith); one = λ k. refl }),
-    ap (λ q. lines d (stateOf q)) e ∙ sym (line-lines d (valid ys smoothing W)),
+    ap (λ q. onward ys smoothing running (stateOf q)) e ∙ sym (all running),
   )
+    where
+      all : (t : Bool) → plain-segments t (pos smoothing) ys ≡ onward ys smoothing t (begin d 0 (pos 0))
+      all false = line-lines d (valid ys smoothing W)
+      all true = finalized-open d (valid ys smoothing W)

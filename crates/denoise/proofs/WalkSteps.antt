@@ -1,5 +1,5 @@
 -- The machine's steps, told of the code's variables: what a pass over steps 3 to 6, or 8 to 10, asks for, and where it leads.
-use mathlib.Core.Path.{_≡_, sym, _∙_, ap, subst}
+use mathlib.Core.Path.{_≡_, refl, sym, _∙_, ap, subst}
 use mathlib.Core.Bool.{Bool, true, false}
 use mathlib.Core.List.{List}
 use native.Mathlib.Omega.{arith}
@@ -11,12 +11,13 @@ use Rattle.optimality.specs.Segments.{Segment}
 use Rattle.optimality.specs.Machine.{Increments, State, Out, on, emit, stop, follow, segment, begin, step, keep-min, keep-max}
 use Rattle.optimality.specs.StepTests.{test3, test4, test8, test9, step-inside, step-final}
 use Rattle.optimality.specs.MachineLaws.{Facts, After, facts, begin-sound, step-after, lines, lines-step}
+use Rattle.optimality.specs.FinalizedLaws.{open-lines, open-step}
 use Rattle.optimality.specs.SmallNumbers.{SmallAfter, begin-small, step-small, more-small}
 use Rattle.optimality.specs.TenSteps.{Values, if3, if4, if8, if9}
 use Rattle.optimality.specs.TenStepsLaws.{values, advance, touched, advance-fair, test3-is, test4-is, test8-is, test9-is}
 use Rattle.optimality.specs.TenStepsLine as TenStepsLine
 use Rattle.denoise.specs.Variables.{dataOf, before, stateOf, variablesOf, valuesOf, Ready, cutOf}
-use Rattle.denoise.specs.Walk.{as-segment, Good}
+use Rattle.denoise.specs.Walk.{as-segment, Good, onward}
 use Rattle.denoise.specs.declared.steps.Ratio.{Ratio}
 use Rattle.denoise.specs.declared.steps.Variables.{Variables}
 use Rattle.denoise.proofs.VariableLaws.{suc-before, values-are, smooth, valid}
@@ -103,8 +104,11 @@ module _ (ys : List ℤ) (smoothing : ℕ) (W : Limited ys smoothing) where
     pub small-after : (o : Out) → step d s ≡ o → SmallAfter (pos smoothing) ys o
     small-after o e = subst (SmallAfter (pos smoothing) ys) e (step-small (pos smoothing) ys (smooth ys smoothing W) W (G .sound) (G .small))
 
-    pub told : (o : Out) → step d s ≡ o → lines d s ≡ follow (lines d) o
-    told o e = lines-step d (valid ys smoothing W) (G .sound) ∙ ap (follow (lines d)) e
+    -- of a running series: where the next sample has come
+    pub told : (running : Bool) → (running ≡ true → r .k < length ys) → (o : Out) → step d s ≡ o →
+        onward ys smoothing running s ≡ follow (onward ys smoothing running) o
+    told false h o e = lines-step d (valid ys smoothing W) (G .sound) ∙ ap (follow (lines d)) e
+    told true h o e = open-step d (valid ys smoothing W) (G .sound) (h refl) ∙ ap (follow (open-lines d)) e
 
     -- the next segment begins after this one's first minute, and before the end
     pub ahead : {g : Segment} {t : State} → step d s ≡ emit g t → (r .k0 ≤ t .i) × (t .i < length ys)

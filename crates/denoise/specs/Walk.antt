@@ -1,12 +1,14 @@
 -- What the walk from step to step keeps and gives: the segments that are left, and where it stands.
 use mathlib.Core.Path.{_≡_}
+use mathlib.Core.Bool.{Bool, true, false}
 use mathlib.Core.List.{List}
 use Prim.Native.Nat.{ℕ, _+_, _*_, _<_, _≤_}
 use lib.ListN.{length, drop}
 use lib.IntN.{ℤ, pos}
 use Rattle.optimality.specs.Segments.{Segment}
-use Rattle.optimality.specs.Machine.{Out, on, emit, stop, segment}
+use Rattle.optimality.specs.Machine.{State, Out, on, emit, stop, segment}
 use Rattle.optimality.specs.MachineLaws.{Sound, lines}
+use Rattle.optimality.specs.FinalizedLaws.{open-lines}
 use Rattle.optimality.specs.SmallNumbers as SmallNumbers
 use Rattle.denoise.specs.Variables.{dataOf, stateOf, variablesOf}
 use Rattle.denoise.specs.declared.steps.Variables.{Variables}
@@ -54,34 +56,39 @@ module _ (ys : List ℤ) (smoothing : ℕ) where
     pub sound : Sound (dataOf ys smoothing) (stateOf r)
     pub small : SmallNumbers.Small (pos smoothing) ys (stateOf r)
 
-  -- the segments from there on
-  abbrev pub rest : Variables → List Segment
-  rest r = lines (dataOf ys smoothing) (stateOf r)
-
   -- at step 2: at the last minute the segment under construction has no other
   pub record Starts (r : Variables) : Type 0 where
     pub good : Good r
     pub one : r .k ≡ length ys → r .k ≡ r .k0
 
-  -- after m segments, for which more minutes than the budget were looked at, at most 65,536 for each, the rest comes from q on, at step 3, where a segment
-  -- has begun
-  pub record Pauses (from : Variables) (budget m : ℕ) (q : Variables) : Type 0 where
-    pub spent : budget < 65536 * m
-    pub good : Good q
-    pub before : q .k < length ys
-    pub one : q .k ≡ q .k0
-    pub further : from .k0 + m ≤ q .k0
-    pub rest : rest q ≡ drop m (rest from)
+  -- the segments from a state on; while the series is running, those that are final
+  abbrev pub onward : (running : Bool) → State → List Segment
+  onward false = lines (dataOf ys smoothing)
+  onward true = open-lines (dataOf ys smoothing)
 
-  -- all segments that were left, or as many as the budget allows
-  abbrev pub Reached : Variables → ℕ → ℕ → Next → Type 0
-  Reached from budget m Next.Done = m ≡ length (rest from)
-  Reached from budget m (Next.At q) = Pauses from budget m q
+  module _ (running : Bool) where
+    abbrev pub rest : Variables → List Segment
+    rest r = onward running (stateOf r)
 
-  -- a walk over lists of `room` entries
-  pub record Walks (from : Variables) (budget room : ℕ) (w : Walked) : Type 0 where
-    pub fits : w .segments ≤ room
-    pub reached : Reached from budget (w .segments) (w .next)
+    -- after m segments, for which more minutes than the budget were looked at, at most 65,536 for each, the rest comes from q on, at step 3, where a segment
+    -- has begun
+    pub record Pauses (from : Variables) (budget m : ℕ) (q : Variables) : Type 0 where
+      pub spent : budget < 65536 * m
+      pub good : Good q
+      pub before : q .k < length ys
+      pub one : q .k ≡ q .k0
+      pub further : from .k0 + m ≤ q .k0
+      pub rest : rest q ≡ drop m (rest from)
+
+    -- all segments that were left, or as many as the budget allows
+    abbrev pub Reached : Variables → ℕ → ℕ → Next → Type 0
+    Reached from budget m Next.Done = m ≡ length (rest from)
+    Reached from budget m (Next.At q) = Pauses from budget m q
+
+    -- a walk over lists of `room` entries
+    pub record Walks (from : Variables) (budget room : ℕ) (w : Walked) : Type 0 where
+      pub fits : w .segments ≤ room
+      pub reached : Reached from budget (w .segments) (w .next)
 
 -- there are entries for each minute, or for two segments more than the budget: each has a minute that is looked at
 pub record Fits (ys : List ℤ) (budget : ℕ) (lengths : List ℕ) (totals : List ℤ) : Type 0 where

@@ -1,4 +1,4 @@
-// For the crates above: the ten steps as long as they look at few minutes again. It asks for a series within the limits, and for room.
+// For the crates above: the ten steps to the end, and as long as they look at few minutes again. They ask for a series within the limits, and for room.
 
 ghost use mathlib.Core.Path.{_≡_};
 ghost use Prim.Native.Nat.{_-_, _≤_, _<_};
@@ -7,6 +7,7 @@ ghost use lib.IntN.{pos};
 ghost use Rattle.integers.specs.Bounds.{Upto};
 ghost use Rattle.optimality.specs.Series.{Limited};
 ghost use Rattle.optimality.specs.Machine.{plain-line};
+ghost use Rattle.optimality.specs.Finalized.{plain-segments};
 ghost use Rattle.optimality.specs.PlainSeries.{line-lengths, line-totals};
 ghost use Rattle.series.specs.Answer.{refill};
 ghost use Rattle.denoise.specs.Attempt.{segmentsOf, leftOff, Attempts};
@@ -14,11 +15,38 @@ use super::steps;
 use super::steps::Variables;
 use super::walk;
 use super::walk::Next;
+use series::MINUTES;
+
+// No walk looks at more minutes: for each of its segments at most those of the series.
+const ENOUGH: usize = MINUTES * MINUTES;
 
 // The line's segments; or the first of them, the minutes that they take and the dual there.
 pub enum Tried {
     Done(u32),
     Spent(u32, usize, i64),
+}
+
+// The line of a series; while it is running, the segments that are final.
+pub fn draw(
+    samples: &[i32],
+    smoothing: u64,
+    running: bool,
+    lengths: &mut [u32],
+    totals: &mut [i64],
+) -> u32
+    requires { ⌜ Limited (now samples) smoothing ⌝ }
+    requires { ⌜ length (now samples) ≤ length (now lengths) ⌝ }
+    requires { ⌜ length (now samples) ≤ length (now totals) ⌝ }
+    ensures answer { λ m. ⌜ m ≡ length (plain-segments running (pos smoothing) (now (samples .entry))) ⌝ }
+    ensures lengths { λ m. ⌜ now (lengths .exit) ≡
+        refill (line-lengths (plain-segments running (pos smoothing) (now (samples .entry)))) (now (lengths .entry)) ⌝ }
+    ensures totals { λ m. ⌜ now (totals .exit) ≡
+        refill (line-totals (plain-segments running (pos smoothing) (now (samples .entry)))) (now (totals .entry)) ⌝ }
+{
+    // 1
+    let from = steps::step_1(samples, smoothing);
+    let w = walk::walk(samples, smoothing, running, from, ENOUGH, lengths, totals);
+    w.segments as u32
 }
 
 // The line, or as much of it as comes of `budget` minutes and those of one segment more.
@@ -40,7 +68,7 @@ pub fn attempt(
 {
     // 1
     let from = steps::step_1(samples, smoothing);
-    let w = walk::walk(samples, smoothing, from, budget, lengths, totals);
+    let w = walk::walk(samples, smoothing, false, from, budget, lengths, totals);
     let m = w.segments as u32;
     let next = w.next;
     match next {

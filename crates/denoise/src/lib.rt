@@ -34,7 +34,7 @@ pub fn line(samples: &[i32], smoothing: u64, lengths: &mut [u32], totals: &mut [
 {
     match drawable(samples, smoothing, lengths.len(), totals.len()) {
         Checked::Refused(number, place) => Drawn::Refused(number, place),
-        Checked::Passed => Drawn::Segments(walk::draw(samples, smoothing, lengths, totals)),
+        Checked::Passed => Drawn::Segments(inner::draw(samples, smoothing, false, lengths, totals)),
     }
 }
 

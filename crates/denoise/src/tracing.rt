@@ -44,7 +44,15 @@ pub(crate) fn trace(samples: &[i32], smoothing: u64, out: &mut [i64])
     let mut from = steps::step_1(samples, smoothing);
     let mut o = Origin { i: 0, u: 0 };
     loop {
-        let w = walk::walk(samples, smoothing, from, 126, &mut lengths, &mut totals);
+        let w = walk::walk(
+            samples,
+            smoothing,
+            false,
+            from,
+            126,
+            &mut lengths,
+            &mut totals,
+        );
         o = fill_all(samples, o, &lengths, &totals, w.segments, out);
         let next = w.next;
         match next {

@@ -4,20 +4,14 @@ ghost use mathlib.Core.Path.{_≡_};
 ghost use Prim.Native.Nat.{suc, _+_, _-_, _≤_, _<_};
 ghost use lib.ListN.{length, set, take};
 ghost use lib.Seq.{sets};
-ghost use lib.IntN.{pos};
 ghost use Rattle.optimality.specs.Series.{Limited};
-ghost use Rattle.optimality.specs.Machine.{step, plain-line};
+ghost use Rattle.optimality.specs.Machine.{step};
 ghost use Rattle.optimality.specs.PlainSeries.{line-lengths, line-totals};
-ghost use Rattle.series.specs.Answer.{refill};
 ghost use Rattle.denoise.specs.Variables.{dataOf, stateOf};
 ghost use Rattle.denoise.specs.Walk.{ScanIs, FinishIs, Good, rest, Starts, Fits, Walks, doneOf, pausedOf};
 use super::steps;
 use super::steps::Span;
 use super::steps::Variables;
-use series::MINUTES;
-
-// No walk looks at more minutes: for each of its segments at most those of the series.
-const ENOUGH: usize = MINUTES * MINUTES;
 
 // What comes of steps 3 to 6, and of steps 8 to 10.
 pub enum Scanned {
@@ -86,10 +80,11 @@ fn finish(samples: &[i32], smoothing: u64, r: Variables) -> Finished
 }
 
 // The steps from step 2 on, until x is set or more than `budget` minutes were looked at, some of them again and again. Each part of x is written as a segment,
-// the first one at the lists' first entries.
+// the first one at the lists' first entries. In a running series the walk ends where step 3 asks for a sample that has not come.
 pub(crate) fn walk(
     samples: &[i32],
     smoothing: u64,
+    running: bool,
     from: Variables,
     budget: usize,
     lengths: &mut [u32],
@@ -98,17 +93,20 @@ pub(crate) fn walk(
     requires { ⌜ Limited (now samples) smoothing ⌝ }
     requires { ⌜ Starts (now samples) smoothing from ⌝ }
     requires { ⌜ Fits (now samples) budget (now lengths) (now totals) ⌝ }
-    ensures answer { λ w. ⌜ Walks (now (samples .entry)) smoothing from budget (length (now (lengths .entry))) w ⌝ }
+    ensures answer { λ w. ⌜ Walks (now (samples .entry)) smoothing running from budget (length (now (lengths .entry))) w ⌝ }
     ensures lengths { λ w. ⌜ now (lengths .exit) ≡ sets (now (lengths .entry)) 0
-        (line-lengths (take (w .segments) (rest (now (samples .entry)) smoothing from))) ⌝ }
+        (line-lengths (take (w .segments) (rest (now (samples .entry)) smoothing running from))) ⌝ }
     ensures totals { λ w. ⌜ now (totals .exit) ≡ sets (now (totals .entry)) 0
-        (line-totals (take (w .segments) (rest (now (samples .entry)) smoothing from))) ⌝ }
+        (line-totals (take (w .segments) (rest (now (samples .entry)) smoothing running from))) ⌝ }
 {
     let mut m = 0;
     let mut spent = 0;
     let mut r = from;
     // 2
     if r.k == samples.len() {
+        if running {
+            return done(m);
+        }
         return last(steps::step_2(samples, smoothing, r), m, lengths, totals);
     }
     loop {
@@ -128,6 +126,9 @@ pub(crate) fn walk(
         }
         // 7
         while r.k >= samples.len() {
+            if running {
+                return done(m);
+            }
             // 8 to 10
             match finish(samples, smoothing, r) {
                 Finished::Set(x, next) => {
@@ -181,7 +182,13 @@ fn last(x: Span, m: usize, lengths: &mut [u32], totals: &mut [i64]) -> Walked
     ensures { λ _. ⌜ now (lengths .exit) ≡ set (now (lengths .entry)) m (x .len) ⌝ }
     ensures { λ _. ⌜ now (totals .exit) ≡ set (now (totals .entry)) m (x .total) ⌝ }
 {
-    let segments = write(x, m, lengths, totals);
+    done(write(x, m, lengths, totals))
+}
+
+// The end of the walk.
+fn done(segments: usize) -> Walked
+    ensures { λ w. ⌜ w ≡ doneOf segments ⌝ }
+{
     let next = Next::Done;
     Walked { segments, next }
 }
@@ -192,19 +199,4 @@ fn paused(segments: usize, r: Variables) -> Walked
 {
     let next = Next::At(r);
     Walked { segments, next }
-}
-
-// The line where nothing is refused.
-pub(crate) fn draw(samples: &[i32], smoothing: u64, lengths: &mut [u32], totals: &mut [i64]) -> u32
-    requires { ⌜ Limited (now samples) smoothing ⌝ }
-    requires { ⌜ length (now samples) ≤ length (now lengths) ⌝ }
-    requires { ⌜ length (now samples) ≤ length (now totals) ⌝ }
-    ensures { λ m. ⌜ m ≡ length (plain-line (pos smoothing) (now (samples .entry))) ⌝ }
-    ensures { λ m. ⌜ now (lengths .exit) ≡ refill (line-lengths (plain-line (pos smoothing) (now (samples .entry)))) (now (lengths .entry)) ⌝ }
-    ensures { λ m. ⌜ now (totals .exit) ≡ refill (line-totals (plain-line (pos smoothing) (now (samples .entry)))) (now (totals .entry)) ⌝ }
-{
-    // 1
-    let from = steps::step_1(samples, smoothing);
-    let w = walk(samples, smoothing, from, ENOUGH, lengths, totals);
-    w.segments as u32
 }

@@ -1,6 +1,7 @@
 -- `denoise::inner::attempt` meets its contract: the walk comes to the end, or to where the rest of the line can be drawn from.
 use borrow.Author.Needs.{needs}
 use mathlib.Core.Path.{_≡_, _∙_, ap, subst}
+use mathlib.Core.Bool.{false}
 use native.Mathlib.Omega.{arith}
 use lib.ListN.{length}
 use lib.IntN.{pos}
@@ -19,28 +20,28 @@ step-1-requires c κs = c .before .pre .0
 walk-requires : tie.Need-walk-requires
 walk-requires c κs =
     let s = c .before .before .before .before in
-    (s .pre .0, (starts-there _ _ (s .pre .0) (c .before .before .step-1 .ensures .0), each-fits (s .pre .1 .0) (s .pre .1 .1)))
+    (s .pre .0, (starts-there _ _ false (s .pre .0) (c .before .before .step-1 .ensures .0), each-fits (s .pre .1 .0) (s .pre .1 .1)))
 
 module _ (c : tie.After-walk) where
   abbrev from : tie.Start
   from = c .before .before .before .before .before
 
   abbrev Reach : Next → Type 0
-  Reach n = let a = from .args in Reached (a .samples .now) (a .smoothing) (c .before .before .before .step-1 .result) (a .budget) (c .walk .result .segments) n
+  Reach n = let a = from .args in Reached (a .samples .now) (a .smoothing) false (c .before .before .before .step-1 .result) (a .budget) (c .walk .result .segments) n
 
   paused : (q : Variables) → c .walk .result .next ≡ Next.At q → let a = from .args in
-      Pauses (a .samples .now) (a .smoothing) (c .before .before .before .step-1 .result) (a .budget) (c .walk .result .segments) q
+      Pauses (a .samples .now) (a .smoothing) false (c .before .before .before .step-1 .result) (a .budget) (c .walk .result .segments) q
   paused q e = subst Reach e (c .walk .ensures .0 .reached)
 
   done : c .walk .result .next ≡ Next.Done → c .walk .result .segments ≡ length (plain-line (pos (from .args .smoothing)) (from .args .samples .now))
   done e =
       subst Reach e (c .walk .ensures .0 .reached)
-      ∙ ap length (all-there _ _ (from .pre .0) (c .before .before .before .step-1 .ensures .0))
+      ∙ ap length (all-there _ _ false (from .pre .0) (c .before .before .before .step-1 .ensures .0))
 
 cast-m : tie.Need-cast-m
 cast-m c =
     let w = c .before .before .before .before in
-    omega (arith, few-written _ _ (from w .pre .0) (w .before .before .before .step-1 .ensures .0) (w .walk .result) (w .walk .ensures .0))
+    omega (arith, few-written _ _ false (from w .pre .0) (w .before .before .before .step-1 .ensures .0) (w .walk .result) (w .walk .ensures .0))
 
 enum-told : tie.Need-enum-told
 enum-told c = search needs
@@ -67,8 +68,8 @@ returns c =
     let w = c .before .before .before .before .before .before in
     let W = from w .pre .0 in
     let e = w .before .before .before .step-1 .ensures .0 in
-    let l = first-filled _ _ W e (λ g. g .len) (w .walk .result .segments) _ (from w .pre .1 .0) in
-    let t = first-filled _ _ W e (λ g. g .total) (w .walk .result .segments) _ (from w .pre .1 .1) in
+    let l = first-filled _ _ false W e (λ g. g .len) (w .walk .result .segments) _ (from w .pre .1 .0) in
+    let t = first-filled _ _ false W e (λ g. g .total) (w .walk .result .segments) _ (from w .pre .1 .1) in
     (done w (c .enum-told .given .1), (w .walk .ensures .1 .0 ∙ l, w .walk .ensures .1 .1 ∙ t))
 
 same-length-3 : tie.Need-same-length-3
@@ -82,8 +83,8 @@ returns-2 c =
     let w = c .before .before .before .before .before .before .before .before in
     let W = from w .pre .0 in
     let e = w .before .before .before .step-1 .ensures .0 in
-    let l = first-filled _ _ W e (λ g. g .len) (w .walk .result .segments) _ (from w .pre .1 .0) in
-    let t = first-filled _ _ W e (λ g. g .total) (w .walk .result .segments) _ (from w .pre .1 .1) in
+    let l = first-filled _ _ false W e (λ g. g .len) (w .walk .result .segments) _ (from w .pre .1 .0) in
+    let t = first-filled _ _ false W e (λ g. g .total) (w .walk .result .segments) _ (from w .pre .1 .1) in
     let P = paused w _ (c .before .before .next .given .1) in
     rw (c .left-off .ensures) (leaves-off _ _ W e P, (w .walk .ensures .1 .0 ∙ l, w .walk .ensures .1 .1 ∙ t))
 

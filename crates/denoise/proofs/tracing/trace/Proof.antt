@@ -1,6 +1,7 @@
 -- `denoise::tracing::trace` meets its contract: each turn fills in the segments that a walk gives, and keeps what the list comes to.
 use borrow.Author.Needs.{needs}
 use mathlib.Core.Path.{refl, sym, _∙_}
+use mathlib.Core.Bool.{false}
 use native.Mathlib.Omega.{arith}
 use Prim.Native.Nat.{_-_}
 use lib.ListN.{length}
@@ -19,7 +20,7 @@ step-1-requires : tie.Need-step-1-requires Inv-loop μ-loop
 step-1-requires c κs = c .pre .0
 
 loop-holds : tie.Need-loop-holds Inv-loop μ-loop
-loop-holds c = let s = starts _ _ (c .before .pre .0) (c .step-1 .ensures .0) in tracing-first _ _ _ (c .before .pre .0) _ _ refl refl (c .step-1 .result) (s .0) (s .1)
+loop-holds c = let s = starts _ _ false (c .before .pre .0) (c .step-1 .ensures .0) in tracing-first _ _ _ (c .before .pre .0) _ _ refl refl (c .step-1 .result) (s .0) (s .1)
 
 -- ---- the walk
 slice-aggregate-walk : tie.Need-slice-aggregate-walk Inv-loop μ-loop
@@ -36,10 +37,10 @@ walk-requires c κs =
 
 -- ---- the dual along what it gave
 slice-aggregate-fill-all : tie.Need-slice-aggregate-fill-all Inv-loop μ-loop
-slice-aggregate-fill-all c = let w = c .before .before .before in sym (w .walk .kept .1 .1 .1 .1 .0 ∙ w .before .before .before .loop .inv .lengths)
+slice-aggregate-fill-all c = let w = c .before .before .before in sym (w .walk .kept .1 .1 .1 .1 .1 .0 ∙ w .before .before .before .loop .inv .lengths)
 
 slice-aggregate-fill-all-2 : tie.Need-slice-aggregate-fill-all-2 Inv-loop μ-loop
-slice-aggregate-fill-all-2 c = let w = c .before .before .before .before in sym (w .walk .kept .1 .1 .1 .1 .1 .0 ∙ w .before .before .before .loop .inv .totals)
+slice-aggregate-fill-all-2 c = let w = c .before .before .before .before in sym (w .walk .kept .1 .1 .1 .1 .1 .1 .0 ∙ w .before .before .before .loop .inv .totals)
 
 fill-all-requires : tie.Need-fill-all-requires Inv-loop μ-loop
 fill-all-requires c κs =
