@@ -1,7 +1,7 @@
 /* Measures the line by the ten steps (ours) and in linear time (fast) beside the same exact steps in C from two compilers, an exact taut string and Condat's
  * floating-point code, on the same samples; looks for the series on which fast takes longest; then whole sheets, and charts of their lines, beside a copy of
- * the sheets' bytes. Prints nanoseconds a minute, the best of several rounds, and ours over each. The lines of the exact methods, and the results on sheets
- * and of charts, are first compared; a difference ends the run. */
+ * the sheets' bytes; then months still running, beside the line. Prints nanoseconds a minute, the best of several rounds, and ours over each. The lines of the
+ * exact methods, and the results on sheets, of charts and of months, are first compared; a difference ends the run. */
 #include <stdio.h>
 #include <string.h>
 
@@ -10,6 +10,7 @@
 #include "baselines.h"
 #include "inputs.h"
 #include "measure.h"
+#include "online.h"
 #include "search.h"
 
 /* ---- lines */
@@ -286,5 +287,6 @@ int main(void)
     }
     search_rows(noise_time);
     all_sheet_rows();
+    online_rows();
     return 0;
 }

@@ -11,8 +11,8 @@
  * short the sheet or the series; every other call needs 16 KiB.
  *
  * Time: dawhikura_sheet_complete and dawhikura_series_line_fast are linear on every input, as reading, writing, checking and charts are: some 7 ns a minute
- * of noise, and up to 22 on the worst series found (README, "Speed"). dawhikura_series_line and dawhikura_series_balances, which need no lists of their own, are
- * as fast on noise but quadratic on some series: a ramp of 65,536 minutes takes up to seven seconds.
+ * of noise, and up to 22 on the worst series found (README, "Speed"). dawhikura_series_line, dawhikura_series_balances, dawhikura_online_fetch and
+ * dawhikura_online_close, which need no lists of their own, are as fast on noise but quadratic on some series: a ramp of 65,536 minutes takes up to seven seconds.
  *
  * A result below 0 is a refusal: minus (256 times the place, plus the number), so that for r < 0 the number is -r % 256 and the place -r / 256. A place is
  * at most 65,536, or at most the count of segments handed over; in a list of more than 2^54 segments a place above 2^54 is told as 2^54.
@@ -25,7 +25,7 @@
  *                                             9  conditions (6), (7) of Condat 2013 broken, place the first such minute
  *  10  a sheet of under 32 bytes             12  field 8, 12, 24 or 28 differs from the table, or field 24 from the bytes given,
  *  11  more segments than minutes, place 4       place the first such byte
- *  13  the line has no such minute
+ *  13  the line has no such minute           14  the running series is closed
  *
  * Minutes and segments are numbered from 1. */
 #ifndef DAWHIKURA_H
@@ -54,6 +54,29 @@ int64_t dawhikura_series_balances(const int32_t *samples, size_t minutes, uint64
 /* Whether a line that somebody else drew is the line of the series: 0, or the first refusal of 1, 2, 4, 3, 6, 7, 8, 9. */
 int64_t dawhikura_series_check(const int32_t *samples, size_t minutes, uint64_t smoothing, const uint32_t *lengths, size_t lengths_len,
                                const int64_t *totals, size_t totals_len);
+
+/* A series that is still running. Its samples live in the caller's list, one entry a minute, and its state in the first three entries of another: the
+ * smoothing, the samples taken, and 0 while it is open (anything else is closed). Both are handed to every call; nothing else is kept. A state list of under
+ * three entries gets 5, place 0, before all else. A refused call leaves state and lists as they were. States and lists may be changed between calls: each
+ * call goes by what it finds.
+ *
+ * Opens a series: writes its state, and gives 0. Refusal 4. */
+int64_t dawhikura_online_open(uint64_t smoothing, uint64_t *state, size_t state_len);
+
+/* Takes one sample more: it is written at its minute's place, and the result is the number of samples then taken. Refusals 14; 2 for the 65,537th sample; 4;
+ * 3 for this sample; 5 where the list is full. Samples taken before are not looked at. */
+int64_t dawhikura_online_push(uint64_t *state, size_t state_len, int32_t sample, int32_t *samples, size_t samples_len);
+
+/* The segments that are settled, in the first entries of both lists; the result is their number, which may be 0. Whatever samples follow, they are the first
+ * segments of the line. Of a closed series, the line. All three lists need as many entries as samples were taken. Refusals 1 where it is closed and
+ * empty, 2, 4, 3 for a sample taken that is in the list, then 5. It looks at all samples taken, in the time of dawhikura_series_line. */
+int64_t dawhikura_online_fetch(const uint64_t *state, size_t state_len, const int32_t *samples, size_t samples_len, uint32_t *lengths, size_t lengths_len,
+                               int64_t *totals, size_t totals_len);
+
+/* Closes a series: the line of all samples taken, as a fetch gives it from then on, and 1 in the state's third entry. The result is the number of segments.
+ * Refusals 14, 1 where nothing was taken, then as a fetch. */
+int64_t dawhikura_online_close(uint64_t *state, size_t state_len, const int32_t *samples, size_t samples_len, uint32_t *lengths, size_t lengths_len,
+                               int64_t *totals, size_t totals_len);
 
 /* A segment of a line, as a record. */
 typedef struct { uint32_t length; int64_t total; } dawhikura_segment;

@@ -47,10 +47,19 @@ typedef struct {
     i64 totals[MOST];
 } Drawn;
 
+/* a month still running, then closed */
+typedef struct {
+    i64 results[5];
+    uint64_t state[3];
+    int32_t samples[MOST];
+    Drawn settled, closed, fetched;
+} Taken;
+
 enum { RESULTS = 16 };
 typedef struct {
     i64 results[RESULTS];
     Drawn drawn, fast, fast_ramp[2];
+    Taken noise, ramp;
     uint32_t firsts[MOST], lasts[MOST], lengths_read[MOST];
     i64 balances[MOST], totals_read[MOST];
     double levels[MOST], mark[2];
@@ -69,6 +78,24 @@ static void list_calls(Run *r)
     r->results[4] = dawhikura_chart_segments(MOST, line.length, m, line.total, m, r->firsts, MOST, r->lasts, MOST, r->levels, MOST);
     r->results[5] = dawhikura_chart_mark(MOST, line.length, m, line.total, m, MOST, r->mark, 2);
     r->results[6] = dawhikura_sheet_write(y, MOST, 50, line.length, m, line.total, m, r->written, SHEET);
+}
+
+/* each sample taken; the settled segments fetched, then the line by closing and by a fetch */
+static void take(Taken *t, const int32_t *samples, size_t n, uint64_t lambda)
+{
+    t->results[0] = dawhikura_online_open(lambda, t->state, 3);
+    for (size_t i = 0; i < n; i++)
+        t->results[1] = dawhikura_online_push(t->state, 3, samples[i], t->samples, n);
+    t->results[2] = dawhikura_online_fetch(t->state, 3, t->samples, n, t->settled.lengths, n, t->settled.totals, n);
+    t->results[3] = dawhikura_online_close(t->state, 3, t->samples, n, t->closed.lengths, n, t->closed.totals, n);
+    t->results[4] = dawhikura_online_fetch(t->state, 3, t->samples, n, t->fetched.lengths, n, t->fetched.totals, n);
+}
+
+/* months of noise and of the ramp of a day */
+static void online_calls(Run *r)
+{
+    take(&r->noise, y, MOST, 50);
+    take(&r->ramp, ramps[1].y, ramps[1].n, ramps[1].lambda);
 }
 
 /* a sheet with its line read, with too few fields too, and completed; and one without its line completed */
@@ -112,6 +139,21 @@ static int other_line(const Drawn *d, const Line *l)
     return memcmp(d->lengths, l->length, 4 * l->n) || memcmp(d->totals, l->total, 8 * l->n);
 }
 
+/* the samples, and the segments while it ran and at the end */
+static void taken_right(const Taken *t, const int32_t *samples, size_t n, uint64_t lambda, const Line *whole)
+{
+    static Line settled;
+    static int step[MOST];
+    reference_settled(samples, n, lambda, &settled, step);
+    i64 want[] = {0, (i64)n, (i64)settled.n, (i64)whole->n, (i64)whole->n};
+    for (int i = 0; i < 5; i++)
+        answers("a run's month", t->results[i], want[i]);
+    answers("a run's month's state", memcmp(t->state, (uint64_t[]){lambda, n, 1}, 24), 0);
+    answers("a run's month's samples", memcmp(t->samples, samples, 4 * n), 0);
+    answers("a run's month, running", other_line(&t->settled, &settled), 0);
+    answers("a run's month, closed", other_line(&t->closed, whole) || other_line(&t->fetched, whole), 0);
+}
+
 static void begin(void)
 {
     uint64_t state = 12345;
@@ -126,6 +168,7 @@ static void begin(void)
     whole_size = reference_sheet(whole, y, MOST, 50, &line);
     bare_size = reference_sheet(bare, y, MOST, 50, NULL);
     list_calls(&first);
+    online_calls(&first);
     sheet_calls(&first);
     fast_calls(&first);
     double mark[2];
@@ -139,6 +182,8 @@ static void begin(void)
         answers("a run's ramp", other_line(&first.fast_ramp[i], &ramps[i].line), 0);
         answers("a run's ramp, completed", memcmp(first.ramp_completed[i], ramps[i].whole, ramps[i].whole_size), 0);
     }
+    taken_right(&first.noise, y, MOST, 50, &line);
+    taken_right(&first.ramp, ramps[1].y, ramps[1].n, ramps[1].lambda, &ramps[1].line);
     answers("a run's mark", memcmp(first.mark, mark, sizeof mark), 0);
     answers("a run's samples", memcmp(first.samples_read, y, sizeof y), 0);
     answers("a run's line, read", memcmp(first.lengths_read, line.length, 4 * line.n) || memcmp(first.totals_read, line.total, 8 * line.n), 0);
@@ -159,6 +204,7 @@ static void nothing(void)
     static Line of_two;
     set_line(&of_two, n, t, 2);
     size_t size = reference_sheet(sheet, s, 2, 1, &of_two);
+    uint64_t empty[] = {1, 0, 0}, month[] = {1, 2, 0};
     i64 none = refusal(1, 0), few = refusal(5, 0), shape = refusal(6, 0), cut = refusal(10, 0);
 
     answers("dawhikura_series_line", dawhikura_series_line(s, 2, 1, a, 2, u, 2), 2);
@@ -225,6 +271,32 @@ static void nothing(void)
     answers("dawhikura_sheet_complete, no sheet", dawhikura_sheet_complete(NULL, 0, out, 64), cut);
     answers("dawhikura_sheet_complete, no output", dawhikura_sheet_complete(sheet, size, NULL, 0), few);
     answers("dawhikura_sheet_complete, nothing", dawhikura_sheet_complete(NULL, 0, NULL, 0), cut);
+
+    answers("dawhikura_online_open", dawhikura_online_open(1, empty, 3), 0);
+    answers("dawhikura_online_open, no state", dawhikura_online_open(1, NULL, 0), few);
+
+    answers("dawhikura_online_push, no state", dawhikura_online_push(NULL, 0, 0, s, 2), few);
+    answers("dawhikura_online_push, no samples", dawhikura_online_push(empty, 3, 0, NULL, 0), few);
+    answers("dawhikura_online_push, nothing", dawhikura_online_push(NULL, 0, 0, NULL, 0), few);
+
+    answers("dawhikura_online_fetch", dawhikura_online_fetch(month, 3, s, 2, a, 2, u, 2), 1);
+    answers("dawhikura_online_fetch, no state", dawhikura_online_fetch(NULL, 0, s, 2, a, 2, u, 2), few);
+    answers("dawhikura_online_fetch, no samples", dawhikura_online_fetch(month, 3, NULL, 0, a, 2, u, 2), few);
+    answers("dawhikura_online_fetch, no lengths", dawhikura_online_fetch(month, 3, s, 2, NULL, 0, u, 2), few);
+    answers("dawhikura_online_fetch, no totals", dawhikura_online_fetch(month, 3, s, 2, a, 2, NULL, 0), few);
+    answers("dawhikura_online_fetch, no lists", dawhikura_online_fetch(month, 3, NULL, 0, NULL, 0, NULL, 0), few);
+    answers("dawhikura_online_fetch, empty, no lists", dawhikura_online_fetch(empty, 3, NULL, 0, NULL, 0, NULL, 0), 0);
+    answers("dawhikura_online_fetch, nothing", dawhikura_online_fetch(NULL, 0, NULL, 0, NULL, 0, NULL, 0), few);
+
+    answers("dawhikura_online_close, no state", dawhikura_online_close(NULL, 0, s, 2, a, 2, u, 2), few);
+    answers("dawhikura_online_close, no samples", dawhikura_online_close(month, 3, NULL, 0, a, 2, u, 2), few);
+    answers("dawhikura_online_close, no lengths", dawhikura_online_close(month, 3, s, 2, NULL, 0, u, 2), few);
+    answers("dawhikura_online_close, no totals", dawhikura_online_close(month, 3, s, 2, a, 2, NULL, 0), few);
+    answers("dawhikura_online_close, no lists", dawhikura_online_close(month, 3, NULL, 0, NULL, 0, NULL, 0), few);
+    answers("dawhikura_online_close, empty, no lists", dawhikura_online_close(empty, 3, NULL, 0, NULL, 0, NULL, 0), none);
+    answers("dawhikura_online_close, nothing", dawhikura_online_close(NULL, 0, NULL, 0, NULL, 0, NULL, 0), few);
+    answers("dawhikura_online_close", dawhikura_online_close(month, 3, s, 2, a, 2, u, 2), 2);
+    answers("dawhikura_online_push", dawhikura_online_push(empty, 3, 0, s, 2), 1);
 }
 
 /* ---- the stack */
@@ -233,6 +305,7 @@ static Run small;
 static void lists_there(void)
 {
     list_calls(&small);
+    online_calls(&small);
 }
 
 static void sheets_there(void)
@@ -284,6 +357,7 @@ static void *rounds(void *run)
         pthread_barrier_wait(&all_there);
         sheet_calls(run);
         fast_calls(run);
+        online_calls(run);
         list_calls(run);
         if (memcmp(run, &first, sizeof first))
             other = run;

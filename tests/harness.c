@@ -35,6 +35,10 @@ void fail(const char *what)
         printf(", totals");
         for (size_t i = 0; i < handed.totals && i < 64; i++)
             printf(" %" PRId64, handed.total[i]);
+        if (handed.entries > 0)
+            printf(", sample %" PRId32 ", state", handed.sample);
+        for (size_t i = 0; i < handed.entries; i++)
+            printf(" %" PRIu64, handed.state[i]);
     }
     printf("\n");
     exit(1);
@@ -81,12 +85,17 @@ void expect(int i, const void *entries, size_t bytes)
     copy(areas[i].want + guard, entries, bytes);
 }
 
-const void *hand(const void *entries, size_t bytes)
+void *lend_holding(const void *entries, size_t bytes)
 {
     void *p = lend(bytes);
     copy(p, entries, bytes);
     expect(used - 1, entries, bytes);
     return p;
+}
+
+const void *hand(const void *entries, size_t bytes)
+{
+    return lend_holding(entries, bytes);
 }
 
 static unsigned long numbers[256];

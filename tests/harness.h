@@ -24,6 +24,9 @@ typedef struct {
     size_t lengths;
     const i64 *total;
     size_t totals, minute, room[4];
+    uint64_t state[5]; /* of a month still running, and a sample for it */
+    size_t entries;
+    int32_t sample;
 } Handed;
 extern Handed handed;
 extern uint64_t seed;
@@ -34,6 +37,9 @@ void fail(const char *what);
 /* ---- the areas */
 /* an area for the call to fill; its bytes must stay as they are but for those that expect tells */
 void *lend(size_t bytes);
+
+/* an area that holds these entries, for the call to change; they too must stay as they are but for those that expect tells */
+void *lend_holding(const void *entries, size_t bytes);
 
 /* an input, which must stay as it is */
 const void *hand(const void *entries, size_t bytes);

@@ -11,12 +11,12 @@ code (given count) = pos count
 code (refused number place) = refusal number place
 
 -- where there is nothing to count
-abbrev pub code-of-none : Answer (Unit {0}) → ℤ
+abbrev pub code-of-none : {A : Type 0} → Answer A → ℤ
 code-of-none (given x) = pos 0
 code-of-none (refused number place) = refusal number place
 
 -- where all that is to be filled is counted beforehand: an entry a sample, an entry a segment
-abbrev pub code-of-all : ℕ → Answer (Unit {0}) → ℤ
+abbrev pub code-of-all : {A : Type 0} → ℕ → Answer A → ℤ
 code-of-all count (given x) = pos count
 code-of-all count (refused number place) = refusal number place
 

@@ -2,10 +2,10 @@
 
 ghost use mathlib.Core.Path.{_≡_};
 ghost use mathlib.Core.List.{[], _∷_};
-ghost use Prim.Native.Nat.{ℕ, _≤_, min};
+ghost use Prim.Native.Nat.{_≤_, min};
 ghost use lib.IntN.{pos};
 ghost use lib.ListN.{length};
-ghost use Rattle.denoise.specs.Line.{drawn, lineOf, lengthsOf, totalsOf};
+ghost use Rattle.denoise.specs.Line.{lineOf, lengthsOf, totalsOf};
 ghost use Rattle.denoise.specs.Dual.{balancesOf, balancesAfter};
 ghost use Rattle.series.specs.Answer.{checked, refill, on-success};
 ghost use Rattle.checker.specs.Check.{checkOf};
@@ -19,22 +19,17 @@ ghost use Rattle.console.specs.Code.{refusal, code, code-of-none, code-o
 ghost use Rattle.console.specs.Mark.{room, kindOf, levelsAfter};
 ghost use Rattle.console.specs.Reading.{three, readingOf, samplesRead, lengthsRead, totalsRead, fieldsRead};
 use chart::Mark;
-use denoise::Drawn;
+use inner::refusal;
+use inner::segments;
 use layout::Fields;
 use layout::Reading;
 use series::Checked;
 use series::Filled;
 use sheet::Written;
 
-// Minus (256 times the place, plus the number).
-fn refusal(number: u32, place: usize) -> i64
-    requires { ⌜ place ≤ farthest ⌝ }
-    ensures { λ r. ⌜ r ≡ refusal number place ⌝ }
-{
-    -((256 * place + number as usize) as i64)
-}
+pub mod inner;
 
-// The same for every place: 2^54 for one that is larger.
+// The result of a refusal at any place: a larger one than 2^54 is told as 2^54.
 fn far_refusal(number: u32, place: usize) -> i64
     ensures { λ r. ⌜ r ≡ refusal number (min place farthest) ⌝ }
 {
@@ -50,17 +45,6 @@ pub fn verdict(c: Checked) -> i64
     match c {
         Checked::Passed => 0,
         Checked::Refused(number, place) => far_refusal(number, place),
-    }
-}
-
-// The result of a drawing: the number of segments.
-fn segments(d: Drawn) -> i64
-    requires { ⌜ ((number place : ℕ) → drawn d ≡ refused number place → place ≤ farthest) ⌝ }
-    ensures { λ r. ⌜ r ≡ code (drawn d) ⌝ }
-{
-    match d {
-        Drawn::Segments(m) => m as i64,
-        Drawn::Refused(number, place) => refusal(number, place),
     }
 }
 

@@ -1,4 +1,4 @@
--- `console::refusal` meets its contract: below 2^63 nothing wraps.
+-- `console::inner::refusal` meets its contract: below 2^63 nothing wraps.
 use mathlib.Core.Path.{_≡_, _∙_}
 use Prim.Native.Nat.{ℕ, _+_, _*_}
 use native.Mathlib.Omega.{arith}
@@ -6,8 +6,8 @@ use lib.IntN.{pos, negℤ, _-ℤ_, +ℤ-idl}
 use mir.Syntax.{w64}
 use mir.Val.{SFits, toZ, ofZ}
 use Rattle.integers.specs.Bounds.{Atmost, cleaning, fit, clean}
-use Rattle.console.proofs.refusal.Statement.{statement}
-use Rattle.console.proofs.refusal.Tie as tie
+use Rattle.console.proofs.inner.refusal.Statement.{statement}
+use Rattle.console.proofs.inner.refusal.Tie as tie
 
 -- a number that is as small as these are, negated
 module _ (n : ℕ) (small : Atmost 4611686022722355199 n) where

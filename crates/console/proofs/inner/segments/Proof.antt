@@ -1,4 +1,4 @@
--- `console::segments` meets its contract.
+-- `console::inner::segments` meets its contract.
 use borrow.Author.Needs.{needs}
 use mathlib.Core.Path.{sym, ap, _∙_}
 use native.Mathlib.Omega.{arith}
@@ -7,8 +7,8 @@ use mir.Val.{SFits}
 use mir.Facts.{toZ-ofZ, toZ-pos}
 use Rattle.denoise.specs.Line.{drawn}
 use Rattle.console.specs.Code.{code}
-use Rattle.console.proofs.segments.Statement.{statement}
-use Rattle.console.proofs.segments.Tie as tie
+use Rattle.console.proofs.inner.segments.Statement.{statement}
+use Rattle.console.proofs.inner.segments.Tie as tie
 
 refusal-requires : tie.Need-refusal-requires
 refusal-requires c κs = let n = c .before in n .before .before .pre _ _ (ap drawn (n .d2 .given .1))

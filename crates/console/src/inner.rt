@@ -1,0 +1,27 @@
+// Results for C, for the crate running too. Not for users: a place that is handed over here is one that the caller has bounded.
+
+ghost use mathlib.Core.Path.{_≡_};
+ghost use Prim.Native.Nat.{ℕ, _≤_};
+ghost use Rattle.denoise.specs.Line.{drawn};
+ghost use Rattle.level.specs.Answer.{refused};
+ghost use Rattle.console.specs.Code.{refusal, code, farthest};
+use denoise::Drawn;
+
+// Minus (256 times the place, plus the number).
+pub fn refusal(number: u32, place: usize) -> i64
+    requires { ⌜ place ≤ farthest ⌝ }
+    ensures answer { λ r. ⌜ r ≡ refusal number place ⌝ }
+{
+    -((256 * place + number as usize) as i64)
+}
+
+// The result of a drawing: the number of segments.
+pub fn segments(d: Drawn) -> i64
+    requires { ⌜ ((number place : ℕ) → drawn d ≡ refused number place → place ≤ farthest) ⌝ }
+    ensures answer { λ r. ⌜ r ≡ code (drawn d) ⌝ }
+{
+    match d {
+        Drawn::Segments(m) => m as i64,
+        Drawn::Refused(number, place) => refusal(number, place),
+    }
+}
