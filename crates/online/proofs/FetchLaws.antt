@@ -19,18 +19,18 @@ use Rattle.denoise.specs.Line.{lineOf}
 use Rattle.online.specs.Calls.{present, fetchable, segmentsOf}
 use Rattle.online.specs.declared.Online.{Online}
 
-module _ (s : Online) (line : Bool) (ys : List ℤ) (lengths totals : ℕ) where
+module _ (s : Online) (ended : Bool) (ys : List ℤ) (lengths totals : ℕ) where
   pub record Fetches : Type 0 where
-    pub some : line ≡ true → 0 < s .taken
+    pub some : ended ≡ true → 0 < s .taken
     pub bounds : InBounds (s .taken) (present s ys) (s .smoothing)
     pub samples : s .taken ≤ length ys
     pub lengths-fit : s .taken ≤ lengths
     pub totals-fit : s .taken ≤ totals
 
   -- a value comes after them
-  pub fetchable-given : {A : Type 0} {x : Answer A} {v : A} → fetchable s line ys lengths totals x ≡ given v → Fetches × (x ≡ given v)
+  pub fetchable-given : {A : Type 0} {x : Answer A} {v : A} → fetchable s ended ys lengths totals x ≡ given v → Fetches × (x ≡ given v)
   fetchable-given e =
-      let e1 = if-past (line && eqb (s .taken) 0) (λ q. never q) e in
+      let e1 = if-past (ended && eqb (s .taken) 0) (λ q. never q) e in
       let e2 = bounds-given (s .taken) (present s ys) (s .smoothing) (e1 .1) in
       let e5 = if-past (ltb (length ys) (s .taken) || (ltb lengths (s .taken) || ltb totals (s .taken))) (λ q. never q) (e2 .1) in
       let p = or-false (ltb (length ys) (s .taken)) (ltb lengths (s .taken) || ltb totals (s .taken)) (e5 .0) in
@@ -45,9 +45,9 @@ module _ (s : Online) (line : Bool) (ys : List ℤ) (lengths totals : ℕ) where
         e5 .1,
       )
 
-  pub fetchable-passed : {A : Type 0} (x : Answer A) → Fetches → fetchable s line ys lengths totals x ≡ x
+  pub fetchable-passed : {A : Type 0} (x : Answer A) → Fetches → fetchable s ended ys lengths totals x ≡ x
   fetchable-passed x F =
-      rw (asked line (F .some)) (bounds-passed (s .taken) (present s ys) (s .smoothing) _ (F .bounds)
+      rw (asked ended (F .some)) (bounds-passed (s .taken) (present s ys) (s .smoothing) _ (F .bounds)
       ∙ rw (le-ltb (length ys) (s .taken) (F .samples), le-ltb lengths (s .taken) (F .lengths-fit), le-ltb totals (s .taken) (F .totals-fit)))
     where
       asked : (b : Bool) → (b ≡ true → 0 < s .taken) → (b && eqb (s .taken) 0) ≡ false
@@ -55,14 +55,14 @@ module _ (s : Online) (line : Bool) (ys : List ℤ) (lengths totals : ℕ) where
       asked false h = refl
 
   -- they do not ask what comes after them
-  pub fetchable-alike : {A : Type 0} (x : Answer A) → Alike passing x (fetchable s line ys lengths totals passing) (fetchable s line ys lengths totals x)
+  pub fetchable-alike : {A : Type 0} (x : Answer A) → Alike passing x (fetchable s ended ys lengths totals passing) (fetchable s ended ys lengths totals x)
   fetchable-alike x =
-      if-alike (line && eqb (s .taken) 0) 1 0
+      if-alike (ended && eqb (s .taken) 0) 1 0
       (bounds-alike (s .taken) (present s ys) (s .smoothing)
       (if-alike (ltb (length ys) (s .taken) || (ltb lengths (s .taken) || ltb totals (s .taken))) 5 0 pass))
 
 -- the samples taken are within the limits
-pub limited : {s : Online} {line : Bool} {ys : List ℤ} {lengths totals : ℕ} → Fetches s line ys lengths totals → 0 < s .taken →
+pub limited : {s : Online} {ended : Bool} {ys : List ℤ} {lengths totals : ℕ} → Fetches s ended ys lengths totals → 0 < s .taken →
     Limited (present s ys) (s .smoothing)
 limited {s} {ys = ys} F h = record {
   some = omega (arith, length-take-le (s .taken) ys (F .samples));

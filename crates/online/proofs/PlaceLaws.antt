@@ -26,9 +26,9 @@ push-placed s y ys =
     if-placed (omega arith) (ltb (length ys) minute) (omega arith) (λ _. unrefused)))))
 
 module _ (s : Online) (ys : List ℤ) (ns : List ℕ) (ts : List ℤ) where
-  fetchable-placed : (line : Bool) (m : ℕ) → Placed 65536 (fetchable s line ys (length ns) (length ts) (given m))
-  fetchable-placed line m =
-      if-placed (omega arith) (line && eqb (s .taken) 0) (omega arith) (λ _.
+  fetchable-placed : (ended : Bool) (m : ℕ) → Placed 65536 (fetchable s ended ys (length ns) (length ts) (given m))
+  fetchable-placed ended m =
+      if-placed (omega arith) (ended && eqb (s .taken) 0) (omega arith) (λ _.
       bounds-placed (s .taken) (present s ys) (s .smoothing) (omega arith) (omega (arith, length-take (s .taken) ys)) (λ _.
       if-placed (omega arith) (ltb (length ys) (s .taken) || (ltb (length ns) (s .taken) || ltb (length ts) (s .taken))) (omega arith) (λ _. unrefused)))
 

@@ -47,26 +47,26 @@ module _ (s : Online) (ys : List ℤ) (ns : List ℕ) (ts : List ℤ) (m : ℕ) 
       rw (← l, ← t) record { meets = meets p L ns ts m q; only = only p L ns ts m q; least = least p L ns ts m q }
 
 -- ---- a call that tests, and then draws
-module _ (s : Online) (ys : List ℤ) (ns : List ℕ) (ts : List ℤ) (line running : Bool) where
+module _ (s : Online) (ys : List ℤ) (ns : List ℕ) (ts : List ℤ) (ended running : Bool) where
   abbrev segs : List Segment
   segs = segmentsOf s running ys
 
   abbrev tests : Answer (Unit {0})
-  tests = fetchable s line ys (length ns) (length ts) passing
+  tests = fetchable s ended ys (length ns) (length ts) passing
 
   abbrev told : Answer ℕ
-  told = fetchable s line ys (length ns) (length ts) (given (length segs))
+  told = fetchable s ended ys (length ns) (length ts) (given (length segs))
 
   -- its answer and the two lists
   abbrev pub Told : Answer ℕ → List ℕ → List ℤ → Type 0
   Told a ns′ ts′ = (a ≡ told) × ((ns′ ≡ on-success told (refill (line-lengths segs) ns) ns) × (ts′ ≡ on-success told (refill (line-totals segs) ts) ts))
 
   pub refusal-told : (number place : ℕ) → tests ≡ refused number place → Told (refused number place) ns ts
-  refusal-told number place e = let q = stopped (fetchable-alike s line ys (length ns) (length ts) (given (length segs))) e in rw q (refl, (refl, refl))
+  refusal-told number place e = let q = stopped (fetchable-alike s ended ys (length ns) (length ts) (given (length segs))) e in rw q (refl, (refl, refl))
 
   pub segments-told : (m : ℕ) (ns′ : List ℕ) (ts′ : List ℤ) → tests ≡ passing →
       (m ≡ length segs) × ((ns′ ≡ refill (line-lengths segs) ns) × (ts′ ≡ refill (line-totals segs) ts)) → Told (given m) ns′ ts′
-  segments-told m ns′ ts′ e h = let q = passed (fetchable-alike s line ys (length ns) (length ts) (given (length segs))) e .1 in rw q (ap given (h .0), h .1)
+  segments-told m ns′ ts′ e h = let q = passed (fetchable-alike s ended ys (length ns) (length ts) (given (length segs))) e .1 in rw q (ap given (h .0), h .1)
 
 -- an open series of which nothing was taken has no segment that is final
 pub nothing-told : (s : Online) (ys : List ℤ) (ns : List ℕ) (ts : List ℤ) → Fetches s (s .closed) ys (length ns) (length ts) → s .taken ≡ 0 →

@@ -49,10 +49,10 @@ module _ (s : Online) (y : ℤ) where
 abbrev pub present : Online → List ℤ → List ℤ
 present s ys = take (s .taken) ys
 
--- 1 where it is the line that is asked for, 2, 4, 3, and 5 for the samples and for two lists of so many entries
-abbrev pub fetchable : {A : Type 0} → Online → Bool → List ℤ → (lengths totals : ℕ) → Answer A → Answer A
-fetchable s line ys lengths totals a =
-    refuse-if (line && eqb (s .taken) 0) 1 0 (in-bounds (s .taken) (present s ys) (s .smoothing)
+-- 1 for a series that has ended, of which the line is asked for; 2, 4, 3, and 5 for the samples and for two lists of so many entries
+abbrev pub fetchable : {A : Type 0} → Online → (ended : Bool) → List ℤ → (lengths totals : ℕ) → Answer A → Answer A
+fetchable s ended ys lengths totals a =
+    refuse-if (ended && eqb (s .taken) 0) 1 0 (in-bounds (s .taken) (present s ys) (s .smoothing)
     (refuse-if (ltb (length ys) (s .taken) || (ltb lengths (s .taken) || ltb totals (s .taken))) 5 0 a))
 
 -- those that are final while it is running, and else the line

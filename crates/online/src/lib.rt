@@ -144,11 +144,11 @@ fn pushable(s: Online, sample: i32, entries: usize) -> Checked
     Checked::Passed
 }
 
-// 1 where it is the line that is asked for, 2, 4, 3, and 5 for the samples and for two lists of so many entries.
-fn fetchable(s: Online, line: bool, samples: &[i32], lengths: usize, totals: usize) -> Checked
-    ensures { λ r. ⌜ checked r ≡ fetchable s line (now (samples .entry)) lengths totals (given tt) ⌝ }
+// 1 for a series that has ended, 2, 4, 3, and 5 for the samples and for two lists of so many entries.
+fn fetchable(s: Online, ended: bool, samples: &[i32], lengths: usize, totals: usize) -> Checked
+    ensures { λ r. ⌜ checked r ≡ fetchable s ended (now (samples .entry)) lengths totals (given tt) ⌝ }
 {
-    if line {
+    if ended {
         if s.taken == 0 {
             return Checked::Refused(1, 0);
         }

@@ -22,7 +22,7 @@ use Rattle.online.proofs.fetchable.Tie as tie
 returns : tie.Need-returns
 returns c = rw (c .before .before .if1 .taken, eq-eqb _ _ (c .if2 .taken))
 
-asked : (c : tie.Joined1) → let a = c .before .args in (a .line && eqb (a .s .taken) 0) ≡ false
+asked : (c : tie.Joined1) → let a = c .before .args in (a .ended && eqb (a .s .taken) 0) ≡ false
 asked c = ⊎-elim (λ h. rw (h .0 .taken, ne-eqb (c .before .args .s .taken) 0 (h .2 .left))) (λ h. rw (h .left)) (c .if1 .came)
 
 -- ---- the samples taken that are in the list
@@ -78,7 +78,7 @@ bounded c = bounds-given _ _ _ (sym (tested (c .before .before)) ∙ ap checked 
 -- past the tests before it
 past : (c : tie.After-enum-told) (t : Bool) {x : Answer (Unit {0})} → let a = start (c .before .before) .args in let ys = a .samples .now in
     (ltb (length ys) (a .s .taken) || (ltb (a .lengths) (a .s .taken) || ltb (a .totals) (a .s .taken))) ≡ t →
-    refuse-if t 5 0 passing ≡ x → x ≡ fetchable (a .s) (a .line) ys (a .lengths) (a .totals) passing
+    refuse-if t 5 0 passing ≡ x → x ≡ fetchable (a .s) (a .ended) ys (a .lengths) (a .totals) passing
 past c t {x} e f =
     let b = c .before .before in
     let a = start b .args in
