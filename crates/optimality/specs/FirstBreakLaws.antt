@@ -151,7 +151,7 @@ module _ (Q : ℕ) (q : 0 < Q) where
     verdict a ms (s ∷ ss) r l z = judge 1 ms s _ (s .len) ss (r .0) l (r .1) (r .2) z _ (at-scale (of-scale s (z .0)) a)
 
 -- ---- for the reader's definitions
-length-numerators : (Q : ℕ) (ss : List Segment) → length (numerators Q ss) ≡ total-length ss
+pub length-numerators : (Q : ℕ) (ss : List Segment) → length (numerators Q ss) ≡ total-length ss
 unfolding numerators total-length
 length-numerators Q [] = refl
 length-numerators Q (s ∷ ss) = simp (length-append, length-replicate, length-numerators Q ss)

@@ -38,7 +38,7 @@ whole-cost Q L ms (z ∷ zs) = go (cost Q L ms (z ∷ zs)) (last z zs)
     go C y = ring (C ∷ Q ∷ y ∷ z ∷ []) (search reify depth 20) refl
 
 -- ---- where the line steps by d, the dual is at the bound against it
-at-bound : (B U d : ℤ) → (pos 0 ⋖ d → U ≡ negℤ B) → (d ⋖ pos 0 → U ≡ B) → U *ℤ d ≡ negℤ B *ℤ absℤ d
+pub at-bound : (B U d : ℤ) → (pos 0 ⋖ d → U ≡ negℤ B) → (d ⋖ pos 0 → U ≡ B) → U *ℤ d ≡ negℤ B *ℤ absℤ d
 at-bound B U (pos zero) r f = ring (B ∷ U ∷ []) (search reify depth 20) refl
 at-bound B U (pos (suc n)) r f = ap (λ u. u *ℤ pos (suc n)) (r (omega int))
 at-bound B U (negsuc n) r f = ap (λ u. u *ℤ negsuc n) (f (omega int)) ∙ flip (pos (suc n))

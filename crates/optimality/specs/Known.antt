@@ -1,5 +1,5 @@
--- The known lines of RULES 2.6, those with a star: over one table, by computing the machine, and by computing the taut string. And what is final of a few
--- series that may go on.
+-- The known lines of RULES 2.6, those with a star: over one table, by computing the machine, and by computing the taut string. And a few floored
+-- lines, and what is final of a few series that may go on.
 use mathlib.Core.Path.{_≡_, refl}
 use mathlib.Core.List.{List, [], _∷_, map}
 use Prim.Native.Nat.{ℕ}
@@ -8,9 +8,11 @@ use lib.IntN.{ℤ, pos, negℤ, _*ℤ_}
 use Rattle.optimality.specs.Series.{plain}
 use Rattle.optimality.specs.Conditions.{dual}
 use Rattle.optimality.specs.Segments.{Segment, numerators}
+use Rattle.optimality.specs.PlainSeries.{plain-segment}
 use Rattle.optimality.specs.Machine.{plain-increments, plain-line, step, run, line}
 use Rattle.optimality.specs.TenSteps.{next}
 use Rattle.optimality.specs.Finalized.{run-until, pieces, run-open, finalized}
+use Rattle.optimality.specs.FusedLasso.{join, joined, fused-line}
 use Rattle.optimality.specs.TautString.{bottom, rest, drop-first, pool, fill, falls, scan, taut-line}
 
 pub record Row : Type 0 where
@@ -23,7 +25,7 @@ row ys L ss = record { samples = ys; smoothing = L; segments = ss }
 
 -- (length, total)
 abbrev seg : ℕ → ℤ → Segment
-seg len total = record { len = len; divisor = len; total = total }
+seg = plain-segment
 
 abbrev pub table : List Row
 table =
@@ -54,6 +56,28 @@ known-taut-lines = refl
 pub known-dual : let ys = pos 0 ∷ pos 10 ∷ [] in dual (pos 2) (pos 0) (plain ys) (numerators 2 (plain-line (pos 5) ys)) 1 ≡ pos 2 *ℤ negℤ (pos 5)
 unfolding line run step dual plain numerators
 known-dual = refl
+
+-- ---- floored
+pub record FlooredRow : Type 0 where
+  pub floor : ℤ
+  pub known : Row
+
+abbrev floored-row : List ℤ → ℤ → ℤ → List Segment → FlooredRow
+floored-row ys L μ ss = record { floor = μ; known = row ys L ss }
+
+-- levels −1 to 1 become 0 by a floor of 1, and are one segment; others move by the floor, so a segment's total by the floor times its minutes
+abbrev pub floored-table : List FlooredRow
+floored-table =
+    floored-row (pos 1 ∷ negℤ (pos 1) ∷ pos 1 ∷ []) (pos 0) (pos 1) (seg 3 (pos 0) ∷ [])
+    ∷ floored-row (negℤ (pos 1) ∷ negℤ (pos 2) ∷ []) (pos 1) (pos 1) (seg 2 (negℤ (pos 1)) ∷ [])
+    ∷ floored-row (pos 4 ∷ negℤ (pos 2) ∷ []) (pos 3) (pos 2) (seg 2 (pos 0) ∷ [])
+    ∷ floored-row (pos 5 ∷ pos 2 ∷ negℤ (pos 2) ∷ negℤ (pos 7) ∷ []) (pos 0) (pos 2) (seg 1 (pos 3) ∷ seg 2 (pos 0) ∷ seg 1 (negℤ (pos 5)) ∷ [])
+    ∷ floored-row (pos 3 ∷ pos 3 ∷ pos 3 ∷ []) (pos 0) (pos 0) (seg 3 (pos 9) ∷ [])
+    ∷ []
+
+pub known-floored : map (λ r. fused-line (r .known .smoothing) (r .floor) (r .known .samples)) floored-table ≡ map (λ r. r .known .segments) floored-table
+unfolding line run step join joined
+known-floored = refl
 
 -- ---- while more samples may come
 -- the first of two samples is a final segment where they are more than three times the smoothing apart

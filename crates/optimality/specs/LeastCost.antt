@@ -50,19 +50,21 @@ no-distance (m ∷ ms) (z ∷ zs) (x ∷ xs) p e f h =
 pub only : {xs zs : List ℤ} {C D A : ℤ} → Best xs zs C D A → D ⩽ C → zs ≡ xs
 only {C} {D} h k = h .alike .0 (⩽-antisym D C k (h .least))
 
-pub best-between : (Q L a b : ℤ) (ms : List Minute) (xs zs : List ℤ) → Positive ms → Optimal Q L a b ms xs → length zs ≡ length ms →
-    Best xs zs (cost-between Q L a b ms xs) (cost-between Q L a b ms zs) (distance ms zs xs)
-best-between Q L a b ms xs zs p h e = record {
+-- from the gap, whatever the cost
+pub best-by : (cost : List ℤ → ℤ) (ms : List Minute) (xs zs : List ℤ) → Positive ms → length xs ≡ length ms → length zs ≡ length ms →
+    distance ms zs xs ⩽ cost zs -ℤ cost xs → Best xs zs (cost xs) (cost zs) (distance ms zs xs)
+best-by cost ms xs zs p f e g = record {
   apart = g;
   least = ungap _ _ (⩽-trans (0⩽distance ms zs xs p) g);
-  alike = (λ k. no-distance ms zs xs p e (h .one-each) (none _ _ _ g k), λ k. ap (λ l. cost-between Q L a b ms l) k);
+  alike = (λ k. no-distance ms zs xs p e f (none _ _ _ g k), ap cost);
 }
   where
-    g : distance ms zs xs ⩽ cost-between Q L a b ms zs -ℤ cost-between Q L a b ms xs
-    g = gap-between Q L a b ms xs zs h e
-
     none : (C D A : ℤ) → A ⩽ D -ℤ C → D ≡ C → A ⩽ pos 0
     none C D A h k = omega (int, dif D C)
+
+pub best-between : (Q L a b : ℤ) (ms : List Minute) (xs zs : List ℤ) → Positive ms → Optimal Q L a b ms xs → length zs ≡ length ms →
+    Best xs zs (cost-between Q L a b ms xs) (cost-between Q L a b ms zs) (distance ms zs xs)
+best-between Q L a b ms xs zs p h e = best-by (cost-between Q L a b ms) ms xs zs p (h .one-each) e (gap-between Q L a b ms xs zs h e)
 
 -- a whole series
 pub best : (Q L : ℤ) (ms : List Minute) (xs zs : List ℤ) → Positive ms → Optimal Q L (pos 0) (pos 0) ms xs → length zs ≡ length ms →

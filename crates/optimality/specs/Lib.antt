@@ -8,6 +8,7 @@ pub mod Minimum
 pub mod Machine
 pub mod TenSteps
 pub mod Finalized
+pub mod FusedLasso
 pub mod TautString
 -- Laws: what meets the conditions is the minimum, and the only one.
 pub mod ConditionsLaws
@@ -40,6 +41,9 @@ pub mod TenStepsLine
 -- Laws: the segments that are final while more samples may come.
 pub mod FinalizedLaws
 pub mod FinalizedPrinted
+-- Laws: the fused lasso.
+pub mod FusedLassoLaws
+pub mod FusedGap
 -- Laws: the taut string gives the same line, in linear time.
 pub mod Fall
 pub mod ClosedTube

@@ -38,8 +38,11 @@ squares (z ∷ zs) (x ∷ xs) = (z -ℤ x) *ℤ (z -ℤ x) +ℤ squares zs xs
 abbrev pub plain-cost : (q L : ℤ) → List ℤ → List ℤ → ℤ
 plain-cost q L ys ps = squares (times q ys) ps +ℤ pos 2 *ℤ L *ℤ q *ℤ variation ps
 
-abbrev pub PlainMinimum : (L : ℤ) → List ℤ → List Segment → Type 0
-PlainMinimum L ys ss = (q : ℕ) (ps : List ℤ) → length ps ≡ length ys → (Q : ℕ) → 0 < Q → Q % q ≡ 0 → Scale Q ss →
-    Best (numerators Q ss) (times (pos (Q / q)) ps)
-    (plain-cost (pos Q) L ys (numerators Q ss)) (pos (Q / q) *ℤ pos (Q / q) *ℤ plain-cost (pos q) L ys ps)
+-- where `cost` q ps is a cost of ps over q, times 2 q²
+abbrev pub LeastBy : (cost : ℤ → List ℤ → ℤ) → List ℤ → List Segment → Type 0
+LeastBy cost ys ss = (q : ℕ) (ps : List ℤ) → length ps ≡ length ys → (Q : ℕ) → 0 < Q → Q % q ≡ 0 → Scale Q ss →
+    Best (numerators Q ss) (times (pos (Q / q)) ps) (cost (pos Q) (numerators Q ss)) (pos (Q / q) *ℤ pos (Q / q) *ℤ cost (pos q) ps)
     (squares (times (pos (Q / q)) ps) (numerators Q ss))
+
+abbrev pub PlainMinimum : (L : ℤ) → List ℤ → List Segment → Type 0
+PlainMinimum L ys ss = LeastBy (λ q ps. plain-cost q L ys ps) ys ss

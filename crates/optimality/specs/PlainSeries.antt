@@ -1,9 +1,9 @@
 -- A plain series: every weight is 1, so a segment's divisor is its length, and a line is two lists, lengths and totals.
 use mathlib.Core.Path.{_≡_, refl, sym, _∙_, ap, ap₂}
 use mathlib.Core.List.{List, [], _∷_, map}
-use Prim.Native.Nat.{ℕ, zero, suc, _≤_}
+use Prim.Native.Nat.{ℕ, zero, suc, _<_, _≤_}
 use native.Mathlib.Omega.{arith}
-use lib.ListN.{length, take, drop, length-drop, length-map}
+use lib.ListN.{length, getD, take, drop, length-drop, length-map}
 use lib.IntN.{ℤ, pos, _+ℤ_}
 use lib.Signed.{ltZ-yes}
 use Rattle.integers.specs.Laws.{one-*ℤ}
@@ -47,10 +47,29 @@ weigh-plain (suc n) [] h = absurd (omega arith)
 weigh-plain (suc n) (y ∷ ys) h = ap (λ t. pos 1 +ℤ t) (weigh-plain n ys (omega arith)) ∙ ap pos (omega arith)
 
 -- ---- the line that lists of lengths and totals are
+abbrev pub plain-segment : (len : ℕ) (total : ℤ) → Segment
+plain-segment len total = record { len = len; divisor = len; total = total }
+
 unfoldable pub segments : List ℕ → List ℤ → List Segment
 segments [] ts = []
 segments (n ∷ ns) [] = []
-segments (n ∷ ns) (t ∷ ts) = record { len = n; divisor = n; total = t } ∷ segments ns ts
+segments (n ∷ ns) (t ∷ ts) = plain-segment n t ∷ segments ns ts
+
+pub segments-short : (ns : List ℕ) (ts : List ℤ) → length (segments ns ts) ≤ length ns
+unfolding segments
+segments-short [] ts = omega arith
+segments-short (n ∷ ns) [] = omega arith
+segments-short (n ∷ ns) (t ∷ ts) = let h = segments-short ns ts in omega arith
+
+-- segment j of the first m
+pub next-segment : (ns : List ℕ) (ts : List ℤ) (m j : ℕ) → j < m → m ≤ length ns → m ≤ length ts →
+    drop j (segments (take m ns) (take m ts)) ≡ plain-segment (getD ns j 0) (getD ts j (pos 0)) ∷ drop (suc j) (segments (take m ns) (take m ts))
+unfolding segments
+next-segment ns ts zero j h a b = absurd (omega arith)
+next-segment [] ts (suc m) j h a b = absurd (omega arith)
+next-segment (n ∷ ns) [] (suc m) j h a b = absurd (omega arith)
+next-segment (n ∷ ns) (t ∷ ts) (suc m) zero h a b = refl
+next-segment (n ∷ ns) (t ∷ ts) (suc m) (suc j) h a b = next-segment ns ts m j (omega arith) (omega arith) (omega arith)
 
 weighed-plain : (ys : List ℤ) (ns : List ℕ) (ts : List ℤ) → total-length (segments ns ts) ≤ length ys → Weighed (plain ys) (segments ns ts)
 unfolding Weighed segments total-length
@@ -76,15 +95,16 @@ line-totals ss = map (λ s. s .total) ss
 abbrev pub AsLists : List Segment → Type 0
 AsLists ss = ss ≡ segments (line-lengths ss) (line-totals ss)
 
+pub as-lists-cons : (g : Segment) (ss : List Segment) → g .divisor ≡ g .len → AsLists ss → AsLists (g ∷ ss)
+unfolding segments
+as-lists-cons g ss d e = ap₂ _∷_ (λ i. record { len = g .len; divisor = d i; total = g .total }) e
+
 as-lists : (ys : List ℤ) (ss : List Segment) → total-length ss ≤ length ys → Weighed (plain ys) ss → AsLists ss
 unfolding Weighed segments total-length
 as-lists ys [] l w = refl
 as-lists ys (s ∷ ss) l w =
-    ap₂ _∷_ (go (w .0 ∙ weigh-plain (s .len) ys (omega arith)))
-    (as-lists (drop (s .len) ys) ss (omega (arith, length-drop (s .len) ys)) (rw (drop-plain (s .len) ys) at (w .1)))
-  where
-    go : pos (s .divisor) ≡ pos (s .len) → s ≡ record { len = s .len; divisor = s .len; total = s .total }
-    go e = let d : s .divisor ≡ s .len = cc in λ i. record { len = s .len; divisor = d i; total = s .total }
+    let e : pos (s .divisor) ≡ pos (s .len) = w .0 ∙ weigh-plain (s .len) ys (omega arith) in
+    as-lists-cons s ss (cc) (as-lists (drop (s .len) ys) ss (omega (arith, length-drop (s .len) ys)) (rw (drop-plain (s .len) ys) at (w .1)))
 
 pub formed-lists : (ys : List ℤ) (ss : List Segment) → WellFormed (plain ys) ss → AsLists ss
 formed-lists ys ss f = as-lists ys ss (omega (arith, f .long, length-plain ys)) (f .weighed)
@@ -105,7 +125,7 @@ as-lists-take zero ss e = refl
 as-lists-take (suc m) [] e = refl
 as-lists-take (suc m) (g ∷ ss) e = let a = as-lists-first g ss e in let i = as-lists-take m ss (a .1) in cc
 
-lists-back : (ns : List ℕ) (ts : List ℤ) → length ns ≡ length ts → (line-lengths (segments ns ts) ≡ ns) × (line-totals (segments ns ts) ≡ ts)
+pub lists-back : (ns : List ℕ) (ts : List ℤ) → length ns ≡ length ts → (line-lengths (segments ns ts) ≡ ns) × (line-totals (segments ns ts) ≡ ts)
 unfolding segments
 lists-back [] [] l = (refl, refl)
 lists-back [] (t ∷ ts) l = absurd (omega arith)

@@ -26,11 +26,11 @@ quotient Q d p h = record { above = go (Q / d) (omega (arith, div-add-mod' Q d))
     go (suc c) e = omega int
 
 -- ---- the product of the divisors
-product : List Segment → ℕ
+unfoldable pub product : List Segment → ℕ
 product [] = 1
 product (s ∷ ss) = s .divisor * product ss
 
-multiple : (ss : List Segment) (k Q : ℕ) → Q ≡ product ss * k → Scale Q ss
+pub multiple : (ss : List Segment) (k Q : ℕ) → Q ≡ product ss * k → Scale Q ss
 unfolding product Scale
 multiple [] k Q e = tt
 multiple (s ∷ ss) k Q e = (go (s .divisor) (product ss) k Q e, multiple ss (s .divisor * k) Q (omega arith))
@@ -56,7 +56,7 @@ positive-drop zero ms p = p
 positive-drop (suc n) [] p = p
 positive-drop (suc n) (m ∷ ms) p = positive-drop n ms (p .1)
 
-0<product : (ms : List Minute) (ss : List Segment) → Positive ms → Proper ss → total-length ss ≡ length ms → Weighed ms ss → 0 < product ss
+pub 0<product : (ms : List Minute) (ss : List Segment) → Positive ms → Proper ss → total-length ss ≡ length ms → Weighed ms ss → 0 < product ss
 unfolding product total-length Proper Weighed
 0<product ms [] p r l w = omega arith
 0<product ms (s ∷ ss) p r l w =

@@ -66,7 +66,7 @@ module _ (Q : ℕ) (q : 0 < Q) where
       *-cancel≡ (s .total) (t .total) (pos (Q / s .divisor)) (of-scale Q q s z .above) (e ∙ ap (λ n. t .total *ℤ pos (Q / n)) (sym f)) in
       λ i. record { len = l i; divisor = f i; total = g i }
 
-  read-back : (ms : List Minute) (ss ss′ : List Segment) → Proper ss → Proper ss′ → Scale Q ss → Scale Q ss′ → Weighed ms ss → Weighed ms ss′ →
+  pub read-back : (ms : List Minute) (ss ss′ : List Segment) → Proper ss → Proper ss′ → Scale Q ss → Scale Q ss′ → Weighed ms ss → Weighed ms ss′ →
       numerators Q ss ≡ numerators Q ss′ → ss ≡ ss′
   unfolding Scale Proper Weighed numerators
   read-back ms [] [] r r′ z z′ w w′ e = refl
