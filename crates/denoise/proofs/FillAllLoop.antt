@@ -2,14 +2,14 @@
 use mathlib.Core.Path.{_≡_, refl, sym, _∙_, ap, subst}
 use mathlib.Core.List.{List, [], _∷_, _++_}
 use native.Mathlib.Omega.{arith}
-use Prim.Native.Nat.{ℕ, zero, suc, _+_, _<_, _≤_}
+use Prim.Native.Nat.{ℕ, suc, _<_, _≤_}
 use lib.ListN.{length, take, drop, length-append, length-take, length-drop, drop-of-length-le}
 use lib.Seq.{sets, length-sets, drop-drop, length-take-le}
 use lib.IntN.{ℤ, _+ℤ_, _-ℤ_}
 use Rattle.integers.specs.Sums.{sumZ}
 use Rattle.optimality.specs.Segments.{Segment, by-divisor, then-v}
 use Rattle.optimality.specs.Series.{Minute, plain, weighted}
-use Rattle.optimality.specs.PlainSeries.{length-plain, plain-weighted, take-plain, drop-plain, segments}
+use Rattle.optimality.specs.PlainSeries.{length-plain, plain-weighted, take-plain, drop-plain, segments, segments-short, next-segment}
 use Rattle.denoise.specs.Dual.{duals-inside, duals}
 use Rattle.denoise.specs.Walk.{as-segment}
 use Rattle.denoise.specs.Trace.{Fills, minutes, filledOf, endOf, spanOf, spanAt, FillsAll, endAll}
@@ -49,22 +49,6 @@ module _ (ys : List ℤ) where
       ap (sets out (m .i)) (duals-plain (m .u) (drop (m .i) ys) g l)
       ∙ sets-append out (m .i) (filledOf ys m (spanOf g)) _
       ∙ rw (long, drop-drop)
-
--- ---- segment j of two lists
-next-segment : (ns : List ℕ) (ts : List ℤ) (m j : ℕ) → j < m → m ≤ length ns → m ≤ length ts →
-    drop j (segments (take m ns) (take m ts)) ≡ as-segment (spanAt ns ts j) ∷ drop (suc j) (segments (take m ns) (take m ts))
-unfolding segments
-next-segment ns ts zero j h a b = absurd (omega arith)
-next-segment [] ts (suc m) j h a b = absurd (omega arith)
-next-segment (n ∷ ns) [] (suc m) j h a b = absurd (omega arith)
-next-segment (n ∷ ns) (t ∷ ts) (suc m) zero h a b = refl
-next-segment (n ∷ ns) (t ∷ ts) (suc m) (suc j) h a b = next-segment ns ts m j (omega arith) (omega arith) (omega arith)
-
-segments-short : (ns : List ℕ) (ts : List ℤ) → length (segments ns ts) ≤ length ns
-unfolding segments
-segments-short [] ts = omega arith
-segments-short (n ∷ ns) [] = omega arith
-segments-short (n ∷ ns) (t ∷ ts) = let h = segments-short ns ts in omega arith
 
 module _ (ys : List ℤ) (ns : List ℕ) (ts : List ℤ) (m : ℕ) (start : Origin) (out₀ : List ℤ) where
   abbrev all : List Segment

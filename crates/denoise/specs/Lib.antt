@@ -5,4 +5,5 @@ pub mod Dual
 pub mod Variables
 pub mod Walk
 pub mod Attempt
+pub mod Portion
 pub mod Trace

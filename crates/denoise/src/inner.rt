@@ -1,4 +1,5 @@
-// For the crates above: the ten steps to the end, and as long as they look at few minutes again. They ask for a series within the limits, and for room.
+// For the crates above: the ten steps to the end, in portions, and as long as they look at few minutes again. They ask for a series within the limits, and for
+// room.
 
 ghost use mathlib.Core.Path.{_≡_};
 ghost use Prim.Native.Nat.{_-_, _≤_, _<_};
@@ -6,15 +7,18 @@ ghost use lib.ListN.{length, getD, take};
 ghost use lib.IntN.{pos};
 ghost use Rattle.integers.specs.Bounds.{Upto};
 ghost use Rattle.optimality.specs.Series.{Limited};
-ghost use Rattle.optimality.specs.Machine.{plain-line};
+ghost use Rattle.optimality.specs.Machine.{begin, plain-line};
 ghost use Rattle.optimality.specs.Finalized.{plain-segments};
 ghost use Rattle.optimality.specs.PlainSeries.{line-lengths, line-totals};
 ghost use Rattle.series.specs.Answer.{refill};
+ghost use Rattle.denoise.specs.Variables.{dataOf, variablesOf};
 ghost use Rattle.denoise.specs.Attempt.{segmentsOf, leftOff, Attempts};
+ghost use Rattle.denoise.specs.Portion.{ahead, Stands, Portion};
 use super::steps;
 use super::steps::Variables;
 use super::walk;
 use super::walk::Next;
+use super::walk::Walked;
 use series::MINUTES;
 
 // No walk looks at more minutes: for each of its segments at most those of the series.
@@ -75,6 +79,36 @@ pub fn attempt(
         Next::Done => Tried::Done(m),
         Next::At(r) => left_off(samples, m, r),
     }
+}
+
+// Where the walk begins.
+pub fn start(samples: &[i32], smoothing: u64) -> Variables
+    requires { ⌜ Limited (now samples) smoothing ⌝ }
+    ensures { λ r. ⌜ r ≡ variablesOf (begin (dataOf (now (samples .entry)) smoothing) 0 (pos 0)) ⌝ }
+{
+    // 1
+    steps::step_1(samples, smoothing)
+}
+
+// The next segments of the line, in the first entries of two lists; and where the others come from.
+pub fn portion(
+    samples: &[i32],
+    smoothing: u64,
+    from: Variables,
+    lengths: &mut [u32],
+    totals: &mut [i64],
+) -> Walked
+    requires { ⌜ Limited (now samples) smoothing ⌝ }
+    requires { ⌜ Stands (now samples) smoothing from ⌝ }
+    requires { ⌜ length (now lengths) ≡ 128 ⌝ }
+    requires { ⌜ length (now totals) ≡ 128 ⌝ }
+    ensures answer { λ w. ⌜ Portion (now (samples .entry)) smoothing from w ⌝ }
+    ensures lengths { λ w. ⌜ now (lengths .exit) ≡
+        refill (line-lengths (take (w .segments) (ahead (now (samples .entry)) smoothing from))) (now (lengths .entry)) ⌝ }
+    ensures totals { λ w. ⌜ now (totals .exit) ≡
+        refill (line-totals (take (w .segments) (ahead (now (samples .entry)) smoothing from))) (now (totals .entry)) ⌝ }
+{
+    walk::walk(samples, smoothing, false, from, 126, lengths, totals)
 }
 
 // After m segments, where the next one has one minute so far.

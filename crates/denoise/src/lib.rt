@@ -12,9 +12,9 @@ use series::Checked;
 use series::Filled;
 
 pub mod inner;
-mod steps;
+pub mod steps;
 mod tracing;
-mod walk;
+pub mod walk;
 
 pub enum Drawn {
     Segments(u32),

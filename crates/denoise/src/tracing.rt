@@ -1,4 +1,4 @@
-// The dual along a line, written minute by minute. The segments come from the walk of the ten steps, some at a time.
+// The dual along a line, written minute by minute. The segments come from the walk of the ten steps, a portion at a time.
 
 ghost use mathlib.Core.Path.{_≡_};
 ghost use Prim.Native.Nat.{_≤_, _<_};
@@ -13,9 +13,8 @@ ghost use Rattle.series.specs.Answer.{refill};
 ghost use Rattle.denoise.specs.Dual.{duals};
 ghost use Rattle.optimality.specs.Series.{plain, Limited};
 ghost use Rattle.denoise.specs.Trace.{SmallDual, Fills, nextOf, filledOf, endOf, spanAt, FillsAll, endAll};
-use super::steps;
+use super::inner;
 use super::steps::Span;
-use super::walk;
 use super::walk::Next;
 
 // Where a segment begins: after minute i, with the dual u.
@@ -40,19 +39,10 @@ pub(crate) fn trace(samples: &[i32], smoothing: u64, out: &mut [i64])
 {
     let mut lengths = [0u32; 128];
     let mut totals = [0i64; 128];
-    // 1
-    let mut from = steps::step_1(samples, smoothing);
+    let mut from = inner::start(samples, smoothing);
     let mut o = Origin { i: 0, u: 0 };
     loop {
-        let w = walk::walk(
-            samples,
-            smoothing,
-            false,
-            from,
-            126,
-            &mut lengths,
-            &mut totals,
-        );
+        let w = inner::portion(samples, smoothing, from, &mut lengths, &mut totals);
         o = fill_all(samples, o, &lengths, &totals, w.segments, out);
         let next = w.next;
         match next {
