@@ -7,6 +7,7 @@
 
 #include <dawhikura.h>
 #include "../tests/reference.h"
+#include "../tests/reference_floor.h"
 #include "baselines.h"
 #include "inputs.h"
 #include "measure.h"
@@ -99,10 +100,14 @@ static double line_row(const char *name, int methods)
 }
 
 /* ---- whole sheets, and charts of their lines */
-enum { COPY, DRAW, DRAW_FAST, BALANCES, CHECK, COMPLETE, CONFIRM, READ, WRITE, CHART, MARK, TASKS };
+enum { COPY, DRAW, DRAW_FAST, FLOORED, BALANCES, CHECK, COMPLETE, CONFIRM, READ, WRITE, CHART, MARK, TASKS };
 
 /* those that are measured; the first two are what the others are told over */
 static const int *tasks;
+
+/* the floor of the floored line; its name tells it too */
+static const uint64_t mu = 100;
+static Line floored;
 
 static uint8_t bare[SHEET], whole[SHEET], out[SHEET];
 static size_t bare_size, whole_size;
@@ -118,6 +123,7 @@ static int64_t handle(int i)
     case COPY: memcpy(out, whole, whole_size); return (int64_t)whole_size;
     case DRAW: return draw(OURS);
     case DRAW_FAST: return draw(FAST);
+    case FLOORED: return dawhikura_series_fused_lasso(y, n, lambda, mu, other.length, n, other.total, n);
     case BALANCES: return dawhikura_series_balances(y, n, lambda, duals, n);
     case CHECK: return dawhikura_series_check(y, n, lambda, line.length, line.n, line.total, line.n);
     case COMPLETE: return dawhikura_sheet_complete(bare, bare_size, out, whole_size);
@@ -129,7 +135,8 @@ static int64_t handle(int i)
     }
 }
 
-static const char *const names[] = {"copy", "line", "line, fast", "balances", "check", "complete", "complete, filed", "read", "write", "chart", "last mark"};
+static const char *const names[] = {"copy", "line", "line, fast", "line, floor 100", "balances", "check", "complete", "complete, filed", "read", "write",
+                                    "chart", "last mark"};
 
 static int balanced(void)
 {
@@ -167,6 +174,10 @@ static int right(int task, int64_t r)
     case DRAW_FAST:
         other.n = (size_t)r;
         return same_line(&other, &line);
+    case FLOORED:
+        other.n = (size_t)r;
+        reference_floored(&line, mu, &floored);
+        return same_line(&other, &floored);
     case BALANCES: return r == (int64_t)n && balanced();
     case CHECK: return r == 0;
     case READ:
@@ -259,7 +270,8 @@ static void print_columns(void)
 static void all_sheet_rows(void)
 {
     static const size_t sizes[] = {60, 44640, MOST};
-    static const int all[] = {COPY, DRAW, DRAW_FAST, BALANCES, CHECK, COMPLETE, CONFIRM, READ, WRITE, CHART, MARK}, linear[] = {COPY, DRAW_FAST, COMPLETE};
+    static const int all[] = {COPY, DRAW, DRAW_FAST, FLOORED, BALANCES, CHECK, COMPLETE, CONFIRM, READ, WRITE, CHART, MARK};
+    static const int linear[] = {COPY, DRAW_FAST, COMPLETE};
     print_sheet_columns("whole sheets, noise, L = 100", "line");
     for (int s = 0; s < 3; s++) {
         n = sizes[s];

@@ -11,8 +11,9 @@
  * short the sheet or the series; every other call needs 16 KiB.
  *
  * Time: dawhikura_sheet_complete and dawhikura_series_line_fast are linear on every input, as reading, writing, checking and charts are: some 7 ns a minute
- * of noise, and up to 22 on the worst series found (README, "Speed"). dawhikura_series_line, dawhikura_series_balances, dawhikura_online_fetch and
- * dawhikura_online_close, which need no lists of their own, are as fast on noise but quadratic on some series: a ramp of 65,536 minutes takes up to seven seconds.
+ * of noise, and up to 22 on the worst series found (README, "Speed"). dawhikura_series_line, dawhikura_series_fused_lasso, dawhikura_series_balances,
+ * dawhikura_online_fetch and dawhikura_online_close, which need no long lists of their own, are as fast on noise but quadratic on some series: a ramp of 65,536
+ * minutes takes up to seven seconds.
  *
  * A result below 0 is a refusal: minus (256 times the place, plus the number), so that for r < 0 the number is -r % 256 and the place -r / 256. A place is
  * at most 65,536, or at most the count of segments handed over; in a list of more than 2^54 segments a place above 2^54 is told as 2^54.
@@ -26,6 +27,7 @@
  *  10  a sheet of under 32 bytes             12  field 8, 12, 24 or 28 differs from the table, or field 24 from the bytes given,
  *  11  more segments than minutes, place 4       place the first such byte
  *  13  the line has no such minute           14  the running series is closed
+ *                                            15  a floor above 16,777,216
  *
  * Minutes and segments are numbered from 1. */
 #ifndef DAWHIKURA_H
@@ -46,6 +48,14 @@ int64_t dawhikura_series_line(const int32_t *samples, size_t minutes, uint64_t s
 /* The same line, refusals and kept entries, in linear time on every series: for samples that come from strangers. */
 int64_t dawhikura_series_line_fast(const int32_t *samples, size_t minutes, uint64_t smoothing, uint32_t *lengths, size_t lengths_len, int64_t *totals,
                                    size_t totals_len);
+
+/* The line above a quiet floor: the fused lasso of Condat 2013, (2) and (3). Of the line's levels those of at most the floor either way become 0, all others
+ * move by the floor toward 0, and neighbours that both become 0 are one segment. With the floor times all distances from 0 added to the cost, no other line
+ * costs as little. The first entries of both lists are its segments; the result is their number, which may be less than the line's. The lists need as many
+ * entries as there are samples. With a floor of 0 it is the line. It can be charted; checks and sheets are for lines without a floor.
+ * Refusals 1, 2, 4, 15, 3, 5. */
+int64_t dawhikura_series_fused_lasso(const int32_t *samples, size_t minutes, uint64_t smoothing, uint64_t floor, uint32_t *lengths, size_t lengths_len,
+                                     int64_t *totals, size_t totals_len);
 
 /* The balance after each minute, times the length of the segment that holds it. The first entries of the list are the balances, one a sample; the
  * result is their number. The list needs as many entries as there are samples. Refusals 1, 2, 4, 3, 5. */

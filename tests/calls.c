@@ -14,6 +14,7 @@
 #include "harness.h"
 #include "hostile.h"
 #include "random.h"
+#include "reference_floor.h"
 
 /* the stack that the header names: for reading and completing sheets, for the line in linear time, and for the other calls */
 enum { SHEET_STACK = (1 << 20) + 16384, FAST_STACK = (768 << 10) + 16384, LIST_STACK = 16384 };
@@ -26,7 +27,7 @@ static void answers(const char *call, i64 got, i64 want)
 
 /* ---- what a run hands over, and what it fills */
 static int32_t y[MOST];
-static Line line;
+static Line line, floored;
 static dawhikura_segment records[MOST];
 static uint8_t whole[SHEET], bare[SHEET];
 static size_t whole_size, bare_size;
@@ -55,10 +56,10 @@ typedef struct {
     Drawn settled, closed, fetched;
 } Taken;
 
-enum { RESULTS = 16 };
+enum { RESULTS = 17 };
 typedef struct {
     i64 results[RESULTS];
-    Drawn drawn, fast, fast_ramp[2];
+    Drawn drawn, floored, fast, fast_ramp[2];
     Taken noise, ramp;
     uint32_t firsts[MOST], lasts[MOST], lengths_read[MOST];
     i64 balances[MOST], totals_read[MOST];
@@ -78,6 +79,7 @@ static void list_calls(Run *r)
     r->results[4] = dawhikura_chart_segments(MOST, line.length, m, line.total, m, r->firsts, MOST, r->lasts, MOST, r->levels, MOST);
     r->results[5] = dawhikura_chart_mark(MOST, line.length, m, line.total, m, MOST, r->mark, 2);
     r->results[6] = dawhikura_sheet_write(y, MOST, 50, line.length, m, line.total, m, r->written, SHEET);
+    r->results[16] = dawhikura_series_fused_lasso(y, MOST, 50, 100, r->floored.lengths, MOST, r->floored.totals, MOST);
 }
 
 /* each sample taken; the settled segments fetched, then the line by closing and by a fetch */
@@ -161,6 +163,7 @@ static void begin(void)
     for (size_t i = 0; i < MOST; i++)
         y[i] = random_sample(&state, 1);
     reference_line_long(y, MOST, 50, &line);
+    reference_floored(&line, 100, &floored);
     for (size_t s = 0; s < line.n; s++) {
         records[s].length = line.length[s];
         records[s].total = line.total[s];
@@ -174,10 +177,11 @@ static void begin(void)
     double mark[2];
     i64 m = (i64)line.n, size = (i64)whole_size, kind = reference_mark(MOST, line.length, line.n, line.total, line.n, MOST, mark);
     i64 want[RESULTS] = {m, MOST, 0, 0, m, kind, size, m, refusal(5, 0), size, size, m, (i64)ramps[0].line.n, (i64)ramps[1].line.n,
-                         (i64)ramps[0].whole_size, (i64)ramps[1].whole_size};
+                         (i64)ramps[0].whole_size, (i64)ramps[1].whole_size, (i64)floored.n};
     for (int i = 0; i < RESULTS; i++)
         answers("a run", first.results[i], want[i]);
     answers("a run's line", other_line(&first.drawn, &line) || other_line(&first.fast, &line), 0);
+    answers("a run's floored line", other_line(&first.floored, &floored), 0);
     for (int i = 0; i < 2; i++) {
         answers("a run's ramp", other_line(&first.fast_ramp[i], &ramps[i].line), 0);
         answers("a run's ramp, completed", memcmp(first.ramp_completed[i], ramps[i].whole, ramps[i].whole_size), 0);
@@ -218,6 +222,12 @@ static void nothing(void)
     answers("dawhikura_series_line_fast, no lengths", dawhikura_series_line_fast(s, 2, 1, NULL, 0, u, 2), few);
     answers("dawhikura_series_line_fast, no totals", dawhikura_series_line_fast(s, 2, 1, a, 2, NULL, 0), few);
     answers("dawhikura_series_line_fast, nothing", dawhikura_series_line_fast(NULL, 0, 1, NULL, 0, NULL, 0), none);
+
+    answers("dawhikura_series_fused_lasso", dawhikura_series_fused_lasso(s, 2, 1, 1, a, 2, u, 2), 2);
+    answers("dawhikura_series_fused_lasso, no samples", dawhikura_series_fused_lasso(NULL, 0, 1, 1, a, 2, u, 2), none);
+    answers("dawhikura_series_fused_lasso, no lengths", dawhikura_series_fused_lasso(s, 2, 1, 1, NULL, 0, u, 2), few);
+    answers("dawhikura_series_fused_lasso, no totals", dawhikura_series_fused_lasso(s, 2, 1, 1, a, 2, NULL, 0), few);
+    answers("dawhikura_series_fused_lasso, nothing", dawhikura_series_fused_lasso(NULL, 0, 1, 1, NULL, 0, NULL, 0), none);
 
     answers("dawhikura_series_balances", dawhikura_series_balances(s, 2, 1, u, 2), 2);
     answers("dawhikura_series_balances, no samples", dawhikura_series_balances(NULL, 0, 1, u, 2), none);

@@ -26,7 +26,7 @@ void fail(const char *what)
         for (size_t i = 0; i < handed.size && i < 800; i++)
             printf("%s%02x", i % 4 ? "" : " ", handed.sheet[i]);
     } else {
-        printf(", minutes %zu, minute %zu, smoothing %" PRIu64 ", samples", handed.minutes, handed.minute, handed.lambda);
+        printf(", minutes %zu, minute %zu, smoothing %" PRIu64 ", floor %" PRIu64 ", samples", handed.minutes, handed.minute, handed.lambda, handed.mu);
         for (size_t i = 0; handed.y && i < handed.minutes && i < 64; i++)
             printf(" %" PRId32, handed.y[i]);
         printf(", lengths");

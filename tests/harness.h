@@ -19,7 +19,7 @@ typedef struct {
     size_t size;
     const int32_t *y;
     size_t minutes;
-    uint64_t lambda;
+    uint64_t lambda, mu;
     const uint32_t *length;
     size_t lengths;
     const i64 *total;
