@@ -83,8 +83,8 @@ pub fn first_beyond(samples: &[i32], at: usize) -> usize
 }
 
 // Whether no sample is beyond the limits. No early end: that lets the compiler take several samples at a time.
-fn none_beyond(samples: &[i32]) -> bool
-    ensures { λ r. ⌜ r ≡ is-none (first bad-sample (now (samples .entry))) ⌝ }
+pub fn none_beyond(samples: &[i32]) -> bool
+    ensures answer { λ r. ⌜ r ≡ is-none (first bad-sample (now (samples .entry))) ⌝ }
 {
     let mut all = true;
     let mut k = 0;
