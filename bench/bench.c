@@ -1,7 +1,8 @@
 /* Measures the line by the ten steps (ours) and in linear time (fast) beside the same exact steps in C from two compilers, an exact taut string and Condat's
  * floating-point code, on the same samples; looks for the series on which fast takes longest; then whole sheets, and charts of their lines, beside a copy of
- * the sheets' bytes; then months still running, beside the line. Prints nanoseconds a minute, the best of several rounds, and ours over each. The lines of the
- * exact methods, and the results on sheets, of charts and of months, are first compared; a difference ends the run. */
+ * the sheets' bytes; then months still running, beside the line; then sums of a stretch, beside a plain loop. Prints nanoseconds a minute, of sums also a call,
+ * the best of several rounds, and ours over each. The lines of the exact methods, and the results on sheets, of charts, of months and of sums, are first
+ * compared; a difference ends the run. */
 #include <stdio.h>
 #include <string.h>
 
@@ -13,6 +14,7 @@
 #include "measure.h"
 #include "online.h"
 #include "search.h"
+#include "sums.h"
 
 /* ---- lines */
 /* the kit's clang is left out where it is not at hand */
@@ -300,5 +302,6 @@ int main(void)
     search_rows(noise_time);
     all_sheet_rows();
     online_rows();
+    sums_rows();
     return 0;
 }

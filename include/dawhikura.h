@@ -10,10 +10,10 @@
  * Stack: dawhikura_sheet_read and dawhikura_sheet_complete need 1 MiB and 16 KiB for lists of their own, dawhikura_series_line_fast 768 KiB and 16 KiB, however
  * short the sheet or the series; every other call needs 16 KiB.
  *
- * Time: dawhikura_sheet_complete and dawhikura_series_line_fast are linear on every input, as reading, writing, checking and charts are: some 7 ns a minute
- * of noise, and up to 22 on the worst series found (README, "Speed"). dawhikura_series_line, dawhikura_series_fused_lasso, dawhikura_series_balances,
- * dawhikura_online_fetch and dawhikura_online_close, which need no long lists of their own, are as fast on noise but quadratic on some series: a ramp of 65,536
- * minutes takes up to seven seconds.
+ * Time: dawhikura_sheet_complete and dawhikura_series_line_fast are linear on every input, as reading, writing, checking, charts and building a summary are:
+ * some 7 ns a minute of noise, and up to 22 on the worst series found (README, "Speed"). dawhikura_series_line, dawhikura_series_fused_lasso,
+ * dawhikura_series_balances, dawhikura_online_fetch and dawhikura_online_close, which need no long lists of their own, are as fast on noise but quadratic on some
+ * series: a ramp of 65,536 minutes takes up to seven seconds.
  *
  * A result below 0 is a refusal: minus (256 times the place, plus the number), so that for r < 0 the number is -r % 256 and the place -r / 256. A place is
  * at most 65,536, or at most the count of segments handed over; in a list of more than 2^54 segments a place above 2^54 is told as 2^54.
@@ -28,8 +28,9 @@
  *  11  more segments than minutes, place 4       place the first such byte
  *  13  the line has no such minute           14  the running series is closed
  *                                            15  a floor above 16,777,216
+ *                                            16  the series has no such stretch or minute
  *
- * Minutes and segments are numbered from 1. */
+ * Of a summary 7 is an entry beyond its minutes times 16,777,216, place that entry. Minutes, segments and the entries of a summary are numbered from 1. */
 #ifndef DAWHIKURA_H
 #define DAWHIKURA_H
 
@@ -87,6 +88,24 @@ int64_t dawhikura_online_fetch(const uint64_t *state, size_t state_len, const in
  * Refusals 14, 1 where nothing was taken, then as a fetch. */
 int64_t dawhikura_online_close(uint64_t *state, size_t state_len, const int32_t *samples, size_t samples_len, uint32_t *lengths, size_t lengths_len,
                                int64_t *totals, size_t totals_len);
+
+/* Sums of a stretch of minutes, by a summary that the caller keeps beside the samples. Entry e of it, numbered from 1, is the running total after 256 * e
+ * minutes; it has minutes / 256 entries, and a list with fewer gets 5. Entries past those are not looked at and stay. Each call goes by what it reads: a
+ * summary that was built from the samples and then kept by replacements gives their sums, any other is taken as it is.
+ *
+ * Builds a summary: the first entries of the list, one for each full 256 minutes; the result is their number. Refusals 1, 2, 3, 5. */
+int64_t dawhikura_sums_build(const int32_t *samples, size_t minutes, int64_t *summary, size_t summary_len);
+
+/* The sum from one minute to another, both counted: the running total up to `last` less that up to the minute before `first`. It is written to the first
+ * entry of the list `sum`, and the result is 1. For each of the two totals the last entry up to there is read, and the samples after it, at most 255; nothing
+ * else need be right. Refusals 16 where `first` is 0 or above `last`, or `last` above the number of minutes; 2; 5 for the summary, or for no entry in `sum`;
+ * 7 and 3 for what is read. It takes some 70 ns, wherever the stretch lies. */
+int64_t dawhikura_sums_between(const int32_t *samples, size_t minutes, const int64_t *summary, size_t summary_len, size_t first, size_t last, int64_t *sum,
+                               size_t sum_len);
+
+/* Puts another sample in the place of a minute's, and moves the entries that count the minute by the difference; the result is their number, which may be 0.
+ * Refusals 16 for a minute that the series does not have; 2; 5; 7 for an entry that is to be moved; 3 for the old sample or the new one. */
+int64_t dawhikura_sums_replace(int32_t *samples, size_t minutes, int64_t *summary, size_t summary_len, size_t minute, int32_t sample);
 
 /* A segment of a line, as a record. */
 typedef struct { uint32_t length; int64_t total; } dawhikura_segment;

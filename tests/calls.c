@@ -15,6 +15,7 @@
 #include "hostile.h"
 #include "random.h"
 #include "reference_floor.h"
+#include "reference_sums.h"
 
 /* the stack that the header names: for reading and completing sheets, for the line in linear time, and for the other calls */
 enum { SHEET_STACK = (1 << 20) + 16384, FAST_STACK = (768 << 10) + 16384, LIST_STACK = 16384 };
@@ -56,11 +57,18 @@ typedef struct {
     Drawn settled, closed, fetched;
 } Taken;
 
+/* the summary of a series, sums by it and by one that is kept by a replacement */
+typedef struct {
+    i64 results[5], built[ENTRIES], kept[ENTRIES], before[1], after[1];
+    int32_t samples[MOST];
+} Summed;
+
 enum { RESULTS = 17 };
 typedef struct {
     i64 results[RESULTS];
     Drawn drawn, floored, fast, fast_ramp[2];
     Taken noise, ramp;
+    Summed summed;
     uint32_t firsts[MOST], lasts[MOST], lengths_read[MOST];
     i64 balances[MOST], totals_read[MOST];
     double levels[MOST], mark[2];
@@ -98,6 +106,20 @@ static void online_calls(Run *r)
 {
     take(&r->noise, y, MOST, 50);
     take(&r->ramp, ramps[1].y, ramps[1].n, ramps[1].lambda);
+}
+
+/* the stretch that is summed begins and ends between full 256s; the minute that is replaced is in it */
+enum { FIRST = 1000, LAST = MOST - 1000, REPLACED = 30000 };
+
+static void sums_calls(Run *r)
+{
+    Summed *s = &r->summed;
+    memcpy(s->samples, y, sizeof y);
+    s->results[0] = dawhikura_sums_build(y, MOST, s->built, ENTRIES);
+    s->results[1] = dawhikura_sums_between(y, MOST, s->built, ENTRIES, FIRST, LAST, s->before, 1);
+    s->results[2] = dawhikura_sums_build(s->samples, MOST, s->kept, ENTRIES);
+    s->results[3] = dawhikura_sums_replace(s->samples, MOST, s->kept, ENTRIES, REPLACED, LIMIT);
+    s->results[4] = dawhikura_sums_between(s->samples, MOST, s->kept, ENTRIES, FIRST, LAST, s->after, 1);
 }
 
 /* a sheet with its line read, with too few fields too, and completed; and one without its line completed */
@@ -156,6 +178,24 @@ static void taken_right(const Taken *t, const int32_t *samples, size_t n, uint64
     answers("a run's month, closed", other_line(&t->closed, whole) || other_line(&t->fetched, whole), 0);
 }
 
+/* by plain loops over the samples, before the replacement and after it */
+static void summed_right(const Summed *s)
+{
+    static int32_t samples[MOST];
+    i64 want[] = {ENTRIES, 1, ENTRIES, ENTRIES - (REPLACED - 1) / FULL, 1};
+    for (int i = 0; i < 5; i++)
+        answers("a run's sums", s->results[i], want[i]);
+    memcpy(samples, y, sizeof y);
+    for (size_t e = 1; e <= ENTRIES; e++)
+        answers("a run's summary", s->built[e - 1], reference_plain(samples, 1, e * FULL));
+    answers("a run's sum", s->before[0], reference_plain(samples, FIRST, LAST));
+    samples[REPLACED - 1] = LIMIT;
+    answers("a run's replaced sample", memcmp(s->samples, samples, sizeof samples), 0);
+    for (size_t e = 1; e <= ENTRIES; e++)
+        answers("a run's kept summary", s->kept[e - 1], reference_plain(samples, 1, e * FULL));
+    answers("a run's sum, replaced", s->after[0], reference_plain(samples, FIRST, LAST));
+}
+
 static void begin(void)
 {
     uint64_t state = 12345;
@@ -172,6 +212,7 @@ static void begin(void)
     bare_size = reference_sheet(bare, y, MOST, 50, NULL);
     list_calls(&first);
     online_calls(&first);
+    sums_calls(&first);
     sheet_calls(&first);
     fast_calls(&first);
     double mark[2];
@@ -188,6 +229,7 @@ static void begin(void)
     }
     taken_right(&first.noise, y, MOST, 50, &line);
     taken_right(&first.ramp, ramps[1].y, ramps[1].n, ramps[1].lambda, &ramps[1].line);
+    summed_right(&first.summed);
     answers("a run's mark", memcmp(first.mark, mark, sizeof mark), 0);
     answers("a run's samples", memcmp(first.samples_read, y, sizeof y), 0);
     answers("a run's line, read", memcmp(first.lengths_read, line.length, 4 * line.n) || memcmp(first.totals_read, line.total, 8 * line.n), 0);
@@ -307,6 +349,26 @@ static void nothing(void)
     answers("dawhikura_online_close, nothing", dawhikura_online_close(NULL, 0, NULL, 0, NULL, 0, NULL, 0), few);
     answers("dawhikura_online_close", dawhikura_online_close(month, 3, s, 2, a, 2, u, 2), 2);
     answers("dawhikura_online_push", dawhikura_online_push(empty, 3, 0, s, 2), 1);
+
+    i64 away = refusal(16, 0);
+    answers("dawhikura_sums_build", dawhikura_sums_build(s, 2, u, 2), 0);
+    answers("dawhikura_sums_build, no samples", dawhikura_sums_build(NULL, 0, u, 2), none);
+    answers("dawhikura_sums_build, no summary", dawhikura_sums_build(s, 2, NULL, 0), 0);
+    answers("dawhikura_sums_build, a month, no summary", dawhikura_sums_build(y, MOST, NULL, 0), few);
+    answers("dawhikura_sums_build, nothing", dawhikura_sums_build(NULL, 0, NULL, 0), none);
+
+    answers("dawhikura_sums_between", dawhikura_sums_between(s, 2, t, 2, 1, 2, u, 2), 1);
+    answers("dawhikura_sums_between, no samples", dawhikura_sums_between(NULL, 0, t, 2, 1, 2, u, 2), away);
+    answers("dawhikura_sums_between, no summary", dawhikura_sums_between(s, 2, NULL, 0, 1, 2, u, 2), 1);
+    answers("dawhikura_sums_between, a month, no summary", dawhikura_sums_between(y, MOST, NULL, 0, 1, 2, u, 2), few);
+    answers("dawhikura_sums_between, no sum", dawhikura_sums_between(s, 2, t, 2, 1, 2, NULL, 0), few);
+    answers("dawhikura_sums_between, nothing", dawhikura_sums_between(NULL, 0, NULL, 0, 1, 2, NULL, 0), away);
+
+    answers("dawhikura_sums_replace", dawhikura_sums_replace(s, 2, u, 2, 1, 5), 0);
+    answers("dawhikura_sums_replace, no samples", dawhikura_sums_replace(NULL, 0, u, 2, 1, 5), away);
+    answers("dawhikura_sums_replace, no summary", dawhikura_sums_replace(s, 2, NULL, 0, 1, 5), 0);
+    answers("dawhikura_sums_replace, a month, no summary", dawhikura_sums_replace(y, MOST, NULL, 0, 1, 5), few);
+    answers("dawhikura_sums_replace, nothing", dawhikura_sums_replace(NULL, 0, NULL, 0, 1, 5), away);
 }
 
 /* ---- the stack */
@@ -316,6 +378,7 @@ static void lists_there(void)
 {
     list_calls(&small);
     online_calls(&small);
+    sums_calls(&small);
 }
 
 static void sheets_there(void)
@@ -368,6 +431,7 @@ static void *rounds(void *run)
         sheet_calls(run);
         fast_calls(run);
         online_calls(run);
+        sums_calls(run);
         list_calls(run);
         if (memcmp(run, &first, sizeof first))
             other = run;

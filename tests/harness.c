@@ -39,6 +39,10 @@ void fail(const char *what)
             printf(", sample %" PRId32 ", state", handed.sample);
         for (size_t i = 0; i < handed.entries; i++)
             printf(" %" PRIu64, handed.state[i]);
+        if (handed.summary)
+            printf(", from %zu to %zu, sample %" PRId32 ", summary", handed.first, handed.last, handed.sample);
+        for (size_t i = 0; i < handed.summed && i < 64; i++)
+            printf(" %" PRId64, handed.summary[i]);
     }
     printf("\n");
     exit(1);

@@ -24,9 +24,11 @@ typedef struct {
     size_t lengths;
     const i64 *total;
     size_t totals, minute, room[4];
-    uint64_t state[5]; /* of a month still running, and a sample for it */
+    uint64_t state[5]; /* of a month still running, and a sample for it or for a replacement */
     size_t entries;
     int32_t sample;
+    const i64 *summary; /* of the samples, and the minutes of a stretch */
+    size_t summed, first, last;
 } Handed;
 extern Handed handed;
 extern uint64_t seed;

@@ -1,4 +1,4 @@
-// Results for C, for the crates running and floored too. Not for users: a place that is handed over here is one that the caller has bounded.
+// Results for C, for the crates running, floored and summary too. Not for users: a place that is handed over here is one that the caller has bounded.
 
 ghost use mathlib.Core.Path.{_≡_};
 ghost use Prim.Native.Nat.{ℕ, _≤_};
