@@ -9,7 +9,7 @@ use Rattle.level.specs.Answer.{refused}
 use Rattle.series.specs.Answer.{passing, refill}
 use Rattle.series.proofs.Refusals.{pass, stopped}
 use Rattle.sums.specs.Calls.{askable, betweenOf}
-use Rattle.sums.proofs.AskLaws.{askable-given, askable-passed, askable-alike, askable-again}
+use Rattle.sums.proofs.AskLaws.{askable-given, askable-passed, askable-alike}
 use Rattle.summary.specs.Entries.{summingOf}
 
 -- 16 before 5
@@ -24,7 +24,7 @@ module _ (ys cs : List ℤ) (first last : ℕ) (out : List ℤ) where
   summing-nowhere h e = askable-passed (length ys) (length cs) first last _ (askable-given (length ys) (length cs) first last e .0) ∙ rw (eq-eqb (length out) 0 h)
 
   pub summing : (length out ≡ 0 → ⊥) → summingOf ys cs first last out ≡ betweenOf ys cs first last
-  summing n = rw (ne-eqb (length out) 0 n) (askable-again (length ys) (length cs) first last _)
+  summing n = rw (ne-eqb (length out) 0 n)
 
 -- the sum in the first entry
 pub first-entry : (out : List ℤ) (t : ℤ) → (length out ≡ 0 → ⊥) → set out 0 t ≡ refill (t ∷ []) out

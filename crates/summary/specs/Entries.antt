@@ -6,10 +6,10 @@ use lib.ListN.{length}
 use lib.IntN.{ℤ}
 use Rattle.level.specs.Answer.{Answer, refused, given, refuse-if}
 use Rattle.series.specs.Answer.{refill}
-use Rattle.sums.specs.Calls.{askable, betweenOf}
+use Rattle.sums.specs.Calls.{askable, difference}
 
 abbrev pub summingOf : (ys cs : List ℤ) → (first last : ℕ) → List ℤ → Answer ℤ
-summingOf ys cs first last out = askable (length ys) (length cs) first last (refuse-if (eqb (length out) 0) 5 0 (betweenOf ys cs first last))
+summingOf ys cs first last out = askable (length ys) (length cs) first last (refuse-if (eqb (length out) 0) 5 0 (difference ys cs first last))
 
 -- what that list then holds
 abbrev pub sumAfter : Answer ℤ → List ℤ → List ℤ

@@ -1,6 +1,6 @@
 -- A stretch is asked for, what it reads is read and a sample is replaced exactly where the series, the entries and the minutes allow it.
-use mathlib.Core.Path.{_≡_, refl, _∙_}
-use mathlib.Core.Bool.{Bool, true, false, _||_}
+use mathlib.Core.Path.{_≡_, _∙_}
+use mathlib.Core.Bool.{false, _||_}
 use mathlib.Core.List.{List}
 use mathlib.Core.Option.{Option, none}
 use native.Mathlib.Omega.{arith}
@@ -10,7 +10,7 @@ use lib.ListN.{length}
 use lib.Seq.{slice}
 use lib.IntN.{ℤ, natAbs}
 use borrow.Author.Tests.{eqb-false, ltb-false, ne-eqb, le-ltb}
-use Rattle.level.specs.Answer.{Answer, refused, given, refuse-if}
+use Rattle.level.specs.Answer.{Answer, refused, given}
 use Rattle.level.proofs.LimitsLaws.{or-false}
 use Rattle.series.specs.Limits.{bad-sample}
 use Rattle.series.proofs.Refusals.{never, if-past, at-past, Alike, if-alike, at-alike}
@@ -70,16 +70,6 @@ module _ (minutes entries first last : ℕ) where
   askable-alike r =
       if-alike (eqb first 0 || (ltb minutes last || ltb last first)) 16 0
       (if-alike (ltb 65536 minutes) 2 0 (if-alike (ltb entries (minutes / 256)) 5 0 r))
-
-  -- asked twice they answer as once
-  pub askable-again : {A : Type 0} (a : Answer A) → askable minutes entries first last (askable minutes entries first last a) ≡ askable minutes entries first last a
-  askable-again a = go (eqb first 0 || (ltb minutes last || ltb last first)) (ltb 65536 minutes) (ltb entries (minutes / 256))
-    where
-      go : (x y z : Bool) → refuse-if x 16 0 (refuse-if y 2 0 (refuse-if z 5 0 (refuse-if x 16 0 (refuse-if y 2 0 (refuse-if z 5 0 a))))) ≡ refuse-if x 16 0 (refuse-if y 2 0 (refuse-if z 5 0 a))
-      go true y z = refl
-      go false true z = refl
-      go false false true = refl
-      go false false false = refl
 
 -- ---- 7 and 3, for the running totals up to minutes m and n
 module _ (ys cs : List ℤ) (m n : ℕ) where

@@ -46,10 +46,12 @@ module _ (ys cs : List ℤ) where
       refuse-if (bad-total (m / 256) (checkpoint cs (m / 256))) 7 (m / 256) (refuse-if (bad-total (n / 256) (checkpoint cs (n / 256))) 7 (n / 256)
       (refuse-at (bad-rest ys m) 3 (refuse-at (bad-rest ys n) 3 a)))
 
-  -- the running total up to `last` less that up to the minute before `first`
+  -- the running total up to `last` less that up to the minute before `first`, as they are read
+  abbrev pub difference : (first last : ℕ) → Answer ℤ
+  difference first last = readable (first - 1) last (given (read-sum ys cs last -ℤ read-sum ys cs (first - 1)))
+
   abbrev pub betweenOf : (first last : ℕ) → Answer ℤ
-  betweenOf first last =
-      askable (length ys) (length cs) first last (readable (first - 1) last (given (read-sum ys cs last -ℤ read-sum ys cs (first - 1))))
+  betweenOf first last = askable (length ys) (length cs) first last (difference first last)
 
 -- ---- another sample at a minute
 -- so many entries, the first ones, do not count it; all after them do

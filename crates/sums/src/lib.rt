@@ -16,6 +16,7 @@ pub enum Counted {
     Refused(u32, usize),
 }
 
+// The answer of a call that sums.
 pub enum Summed {
     Total(i64),
     Refused(u32, usize),
