@@ -1,6 +1,6 @@
 -- Searches for the first that a test picks, along what is left of a list, and the places that they name.
-use mathlib.Core.Path.{_≡_, refl}
-use mathlib.Core.Bool.{Bool, true, false}
+use mathlib.Core.Path.{_≡_, refl, sym}
+use mathlib.Core.Bool.{Bool, true, false, true≢false}
 use mathlib.Core.List.{List, [], _∷_}
 use mathlib.Core.Option.{Option, none, some}
 use native.Mathlib.Omega.{arith}
@@ -8,7 +8,7 @@ use Prim.Native.Nat.{ℕ, zero, suc, _<_, _≤_}
 use lib.ListN.{length, getD, drop, drop-of-length-le}
 use lib.Seq.{drop-cons}
 use Rattle.optimality.specs.Search.{found}
-use Rattle.series.specs.Search.{first-from, place-of}
+use Rattle.series.specs.Search.{first-from, is-none, place-of}
 
 pub place-some : (k : ℕ) → 0 < k → place-of k ≡ some k
 place-some zero h = absurd (omega arith)
@@ -39,3 +39,14 @@ unfolding first-from
 none-picked picks [] i e x k h = absurd (omega arith)
 none-picked picks (y ∷ l) i e x zero h = none-found (picks y) i _ e .0
 none-picked picks (y ∷ l) i e x (suc k) h = none-picked picks l (suc i) (none-found (picks y) i _ e .1) x k (omega arith)
+
+-- and back: where it picks none of them, none is found, from whatever number they are counted
+pub none-where : {A : Type 0} (picks : A → Bool) (l : List A) (i : ℕ) (x : A) → ((k : ℕ) → k < length l → picks (getD l k x) ≡ false) →
+    first-from picks i l ≡ none
+unfolding first-from
+none-where picks [] i x f = refl
+none-where picks (y ∷ l) i x f = rw (f 0 (omega arith)) (none-where picks l (suc i) x (λ k h. f (suc k) (omega arith)))
+
+pub none-is : (o : Option ℕ) → is-none o ≡ true → o ≡ none
+none-is none e = refl
+none-is (some k) e = absurd (true≢false (sym e))

@@ -1,19 +1,16 @@
 -- `series::bounds` meets its contract.
 use borrow.Author.Needs.{needs}
 use borrow.Author.Tests.{lt-ltb, le-ltb}
-use mathlib.Core.Path.{_≡_, refl, sym, _∙_}
-use mathlib.Core.Bool.{true, false, true≢false}
-use mathlib.Core.Option.{Option, none, some}
+use mathlib.Core.Path.{_≡_, sym, _∙_}
+use mathlib.Core.Bool.{false, true≢false}
+use mathlib.Core.Option.{Option, some}
 use Prim.Native.Nat.{ℕ, zero, suc}
 use lib.Dec.{ltb}
 use Rattle.series.specs.Search.{first, is-none, place-of}
 use Rattle.series.specs.Limits.{bad-sample}
+use Rattle.series.proofs.SearchLaws.{none-is}
 use Rattle.series.proofs.bounds.Statement.{statement}
 use Rattle.series.proofs.bounds.Tie as tie
-
-none-is : (o : Option ℕ) → is-none o ≡ true → o ≡ none
-none-is none e = refl
-none-is (some k) e = absurd (true≢false (sym e))
 
 some-is : (o : Option ℕ) (k : ℕ) → place-of k ≡ o → is-none o ≡ false → o ≡ some k
 some-is o zero e h = absurd (true≢false (rw (sym e) at h))
