@@ -3,8 +3,8 @@ use mathlib.Core.Path.{_≡_, refl, sym, _∙_, ap}
 use mathlib.Core.List.{List, [], _∷_, _++_}
 use mathlib.Core.Logic.{⊎-elim}
 use native.Mathlib.Omega.{arith}
-use Prim.Native.Nat.{ℕ, zero, suc, _*_, _/_, _<_, _≤_}
-use lib.ListN.{length, take, getD, length-append, take-append-drop, List·getD-append}
+use Prim.Native.Nat.{ℕ, zero, suc, _-_, _*_, _/_, _<_, _≤_}
+use lib.ListN.{length, take, drop, getD, length-append, take-append-drop, List·getD-append}
 use lib.Seq.{slice, take-take, getD-at}
 use lib.IntN.{ℤ, pos, natAbs, _+ℤ_, _-ℤ_, +ℤ-idl, +ℤ-assoc}
 use Rattle.integers.specs.Order.{le-or-lt, abs-+}
@@ -12,6 +12,7 @@ use Rattle.integers.specs.Linear.{int, sum, dif}
 use Rattle.integers.specs.Sums.{sumZ}
 use Rattle.optimality.specs.Series.{plain, Bounded}
 use Rattle.sums.specs.Checkpoints.{prefix-sum, prefix-sums, Kept, rest, read-sum}
+use Rattle.sums.proofs.PartLaws.{part, slice-min}
 
 pub sum-append : (xs ys : List ℤ) → sumZ (xs ++ ys) ≡ sumZ xs +ℤ sumZ ys
 unfolding sumZ
@@ -49,6 +50,16 @@ module _ (ys : List ℤ) where
       (λ (k : n ≤ e). let q : e ≡ n = omega arith in rw q (getD-at (prefix-sums ys n) _ [] (pos 0) n (length-prefix-sums n)))
       (λ (k : e < n). List·getD-append (prefix-sums ys n) _ (pos 0) e (omega (arith, length-prefix-sums n)) ∙ prefix-sums-at n e k)
       (le-or-lt n e)
+
+-- ---- the samples after the last entry up to minute n, as the code takes them; they are at most 255
+pub full : (n : ℕ) → n / 256 * 256 ≡ 256 * (n / 256)
+full n = omega arith
+
+pub rest-part : (ys : List ℤ) (n : ℕ) → n ≤ length ys → take (n - n / 256 * 256) (drop (n / 256 * 256) ys) ≡ rest ys n
+rest-part ys n h = rw (full n) (part (256 * (n / 256)) n ys (omega arith) h)
+
+pub few-read : (ys : List ℤ) (n : ℕ) → length (rest ys n) ≤ 255
+few-read ys n = omega (arith, slice-min (256 * (n / 256)) n ys)
 
 -- the running total of samples within the limits
 pub small-total : (ys : List ℤ) (n : ℕ) → Bounded 16777216 (plain ys) → natAbs (prefix-sum ys n) ≤ n * 16777216

@@ -24,11 +24,7 @@ use Rattle.sums.proofs.AskLaws.{Asks, askable-past}
 abbrev pub Read : (n j : ℕ) → Type 0
 Read n j = (256 * (n / 256) < j) × (j ≤ n)
 
--- the samples after the last entry up to there are at most 255
-pub few-read : (ys : List ℤ) (n : ℕ) → length (rest ys n) ≤ 255
-few-read ys n = omega (arith, slice-min (256 * (n / 256)) n ys)
-
--- a minute that is read is one of them
+-- it is one of the samples after the last entry up to there
 rest-at : (ys : List ℤ) (n i j : ℕ) → j ≡ suc (256 * (n / 256) + i) → j ≤ n → sample ys j ≡ getD (rest ys n) i (pos 0)
 rest-at ys n i j e h =
     let m = 256 * (n / 256) in

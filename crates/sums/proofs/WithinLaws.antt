@@ -1,7 +1,6 @@
 -- Within the limits, and with checkpoints that are kept, nothing is refused.
-use mathlib.Core.Path.{_≡_, refl, _∙_, ap}
-use mathlib.Core.Bool.{Bool, false}
-use mathlib.Core.List.{List, [], _∷_}
+use mathlib.Core.Path.{_≡_, _∙_, ap}
+use mathlib.Core.List.{List}
 use mathlib.Core.Option.{none}
 use native.Mathlib.Omega.{arith}
 use Prim.Native.Nat.{ℕ, suc, _+_, _-_, _*_, _/_, _<_, _≤_}
@@ -12,8 +11,8 @@ use borrow.Author.Tests.{le-ltb}
 use Rattle.optimality.specs.Series.{plain, Bounded}
 use Rattle.optimality.specs.SmallNumbers.{sample-small}
 use Rattle.level.specs.Answer.{given}
-use Rattle.series.specs.Search.{first-from}
 use Rattle.series.specs.Limits.{bad-sample}
+use Rattle.series.proofs.SearchLaws.{none-where}
 use Rattle.sums.specs.Checkpoints.{stretch-sum, checkpoint, Kept, rest, bad-rest}
 use Rattle.sums.specs.Calls.{betweenOf, replaceOf, uncounting}
 use Rattle.sums.proofs.CheckpointLaws.{small-total}
@@ -21,12 +20,6 @@ use Rattle.sums.proofs.PartLaws.{slice-min, slice-at}
 use Rattle.sums.proofs.AskLaws.{Asks, askable-passed, readable-passed, replaceable-passed}
 use Rattle.sums.proofs.EntryLaws.{none-bad}
 use Rattle.sums.proofs.KeptLaws.{read-between}
-
-none-where : {A : Type 0} (picks : A → Bool) (l : List A) (i : ℕ) (x : A) → ((j : ℕ) → j < length l → picks (getD l j x) ≡ false) →
-    first-from picks i l ≡ none
-unfolding first-from
-none-where picks [] i x f = refl
-none-where picks (z ∷ l) i x f = rw (f 0 (omega arith)) (none-where picks l (suc i) x (λ j h. f (suc j) (omega arith)))
 
 module _ (ys cs : List ℤ) (K : Kept ys cs) (b : Bounded 16777216 (plain ys)) (few : length ys ≤ 65536) where
   asked : (first last : ℕ) → 0 < first → first ≤ last → last ≤ length ys → Asks (length ys) (length cs) first last

@@ -46,7 +46,7 @@ module _ (ys cs : List ℤ) where
       refuse-if (bad-total (m / 256) (checkpoint cs (m / 256))) 7 (m / 256) (refuse-if (bad-total (n / 256) (checkpoint cs (n / 256))) 7 (n / 256)
       (refuse-at (bad-rest ys m) 3 (refuse-at (bad-rest ys n) 3 a)))
 
-  -- the running total up to `last` less that up to the minute before `first`, as they are read
+  -- 7 and 3 for what is read, then the running total up to `last` less that up to the minute before `first`
   abbrev pub difference : (first last : ℕ) → Answer ℤ
   difference first last = readable (first - 1) last (given (read-sum ys cs last -ℤ read-sum ys cs (first - 1)))
 

@@ -1,31 +1,23 @@
 -- `sums::checkpoints::read_sum` meets its contract.
 use borrow.Author.Needs.{needs}
 use mathlib.Core.Path.{_≡_, _∙_, ap, ap₂}
-use mathlib.Core.List.{List}
 use native.Mathlib.Omega.{arith}
-use Prim.Native.Nat.{ℕ, _-_, _*_, _/_, _≤_}
-use lib.ListN.{length, take, drop}
-use lib.Seq.{length-slice}
+use Prim.Native.Nat.{_/_}
 use lib.IntN.{ℤ, _+ℤ_}
 use mir.Syntax.{w64}
 use mir.Val.{toZ, ofZ}
 use Rattle.integers.specs.Order.{abs-+}
 use Rattle.integers.specs.Bounds.{Upto, cleaning, fit, clean}
 use Rattle.integers.specs.Sums.{sumZ}
-use Rattle.sums.specs.Checkpoints.{checkpoint, rest}
-use Rattle.sums.proofs.PartLaws.{part}
+use Rattle.sums.specs.Checkpoints.{checkpoint}
+use Rattle.sums.proofs.CheckpointLaws.{rest-part, few-read}
 use Rattle.sums.proofs.checkpoints.read_sum.Statement.{statement}
 use Rattle.sums.proofs.checkpoints.read_sum.Tie as tie
-
--- the samples after the last entry, as a part of the list
-part-is : (ys : List ℤ) (n : ℕ) → n ≤ length ys → take (n - n / 256 * 256) (drop (n / 256 * 256) ys) ≡ rest ys n
-part-is ys n h = let q : n / 256 * 256 ≡ 256 * (n / 256) = omega arith in rw q (part (256 * (n / 256)) n ys (omega arith) h)
 
 sum-requires : tie.Need-sum-requires
 sum-requires c κs =
     let a = c .before .before .args in
-    let n = a .n in
-    rw (part-is (a .samples .now) n (omega arith)) (omega (arith, length-slice (256 * (n / 256)) n (a .samples .now) (omega arith)))
+    rw (rest-part (a .samples .now) (a .n) (omega arith)) (omega (arith, few-read (a .samples .now) (a .n)))
 
 module _ (c : tie.After-sum) where
   abbrev s : tie.Start
@@ -51,7 +43,7 @@ returns c =
     let x = c .before .before .checkpoint .result in
     let y = c .sum .result in
     let v : toZ w64 (ofZ w64 (toZ w64 (ofZ w64 x) +ℤ toZ w64 (ofZ w64 y))) ≡ x +ℤ y = clean (search cleaning depth 12) tt in (
-      v ∙ ap₂ _+ℤ_ (entry-is c) (c .sum .ensures .0 ∙ ap sumZ (part-is (a .samples .now) (a .n) (omega arith))),
+      v ∙ ap₂ _+ℤ_ (entry-is c) (c .sum .ensures .0 ∙ ap sumZ (rest-part (a .samples .now) (a .n) (omega arith))),
       rw v (omega (arith, abs-+ x y, p .upto, q .upto)),
     )
 
