@@ -1,13 +1,15 @@
--- The equations that decide `decimal`; its length; and that the text is the number's: it reads back, with no zero in front.
+-- The equations that decide `decimal`; its length; that the text is the number's: it reads back, with no zero in front; and that
+-- digits with no zero in front are the text of the number that they spell.
 use mathlib.Core.Path.{_≡_, refl, sym, ap, _∙_}
-use mathlib.Core.List.{List, [], _∷_, _++_}
+use mathlib.Core.List.{List, [], _∷_, _++_, append-nil, append-assoc}
 use mathlib.Core.Logic.{_⊎_, inl, inr, ⊎-elim}
 use Prim.Native.Nat.{ℕ, zero, suc, _+_, _-_, _*_, _/_, _%_, _^_, _≤_, _<_}
 use native.Mathlib.Nat.{pow-succ', eq-zero-or-pos}
 use native.Mathlib.Omega.{arith}
 use lib.ListN.{length, getD, length-append, List·getD-append}
+use lib.IntN.{ℤ, pos, negsuc, natAbs}
 use borrow.Author.Tests.{lt-ltb, le-ltb}
-use Rattle.text.specs.Decimal.{digits, decimal}
+use Rattle.text.specs.Decimal.{digits, decimal, signedDecimal, readOn}
 
 -- n has one digit, or more
 pub one-or-more : (n : ℕ) → (n < 10) ⊎ (10 ≤ n)
@@ -61,11 +63,13 @@ length-decimal (suc k) n h =
 pub some-digit : (n : ℕ) → 0 < length (decimal n)
 some-digit = by-digits (λ n. 0 < length (decimal n)) (λ n h. rw (one-digit n h) (omega arith)) (λ n h k. omega (arith, length-more n h))
 
--- ---- it reads back, so no two numbers share a text. `readOn n ds` is the number that n and then the digits ds spell
-unfoldable pub readOn : ℕ → List ℕ → ℕ
-readOn n [] = n
-readOn n (d ∷ ds) = readOn (10 * n + (d - 48)) ds
+-- with a sign there may be one character more
+pub length-signed : (k : ℕ) (x : ℤ) → natAbs x < 10 ^ suc k → length (signedDecimal x) ≤ suc (suc k)
+unfolding signedDecimal
+length-signed k (pos n) h = omega (arith, length-decimal k n h)
+length-signed k (negsuc n) h = omega (arith, length-decimal k (suc n) h)
 
+-- ---- it reads back, so no two numbers share a text
 readOn-last : (n : ℕ) (ds : List ℕ) (d : ℕ) → readOn n (ds ++ (d ∷ [])) ≡ 10 * readOn n ds + (d - 48)
 unfolding readOn
 readOn-last n [] d = refl
@@ -87,3 +91,37 @@ no-leading-zero =
     ap (λ (l : List ℕ). getD l 0 0) (more-digits n h) ∙ List·getD-append (decimal (n / 10)) ((48 + n % 10) ∷ []) 0 0 (some-digit (n / 10)) in
     let z : n / 10 ≡ 0 = k (sym front ∙ e) in
     omega arith)
+
+-- ---- it is all digits, '0' to '9'
+unfoldable pub Digits : List ℕ → Type 0
+Digits [] = Unit {0}
+Digits (d ∷ ds) = ((48 ≤ d) × (d ≤ 57)) × Digits ds
+
+pub digits-append : (ds es : List ℕ) → Digits ds → Digits es → Digits (ds ++ es)
+unfolding Digits
+digits-append [] es h g = g
+digits-append (d ∷ ds) es h g = (h .0, digits-append ds es (h .1) g)
+
+pub decimal-digits : (n : ℕ) → Digits (decimal n)
+unfolding Digits
+decimal-digits =
+    by-digits (λ n. Digits (decimal n))
+    (λ n h. rw (one-digit n h) ((omega arith, omega arith), tt))
+    (λ n h k. rw (more-digits n h) (digits-append (decimal (n / 10)) ((48 + n % 10) ∷ []) k ((omega arith, omega arith), tt)))
+
+-- ---- digits after a number that is not 0 are the last of the text that they spell, so digits with no zero in front are all of it
+pub decimal-on : (n : ℕ) (ds : List ℕ) → 0 < n → Digits ds → decimal (readOn n ds) ≡ decimal n ++ ds
+unfolding readOn Digits
+decimal-on n [] p h = rw append-nil
+decimal-on n (d ∷ ds) p h =
+    let m = 10 * n + (d - 48) in
+    let front : m / 10 ≡ n = omega (arith, h .0 .0, h .0 .1) in
+    let last : 48 + m % 10 ≡ d = omega (arith, h .0 .0, h .0 .1) in
+    rw (decimal-on m ds (omega arith) (h .1), more-digits m (omega arith), front, last, append-assoc (decimal n) (d ∷ []) ds)
+
+pub spelled-back : (d : ℕ) (ds : List ℕ) → 49 ≤ d → Digits (d ∷ ds) → decimal (readOn 0 (d ∷ ds)) ≡ d ∷ ds
+unfolding readOn Digits
+spelled-back d ds p h =
+    let n = 10 * 0 + (d - 48) in
+    let one : 48 + n ≡ d = omega arith in
+    rw (decimal-on n ds (omega arith) (h .1), one-digit n (omega (arith, h .0 .1)), one)

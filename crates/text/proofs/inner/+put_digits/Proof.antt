@@ -7,12 +7,12 @@ use borrow.Author.Needs.{needs}
 use lib.ListN.{length-set}
 use Rattle.text.specs.Laws.{some-digit, length-more}
 use Rattle.text.proofs.TextParts.{put-one, put-more}
-use Rattle.text.proofs.put_digits.Reads as put-digits
-use Rattle.text.proofs.put_digits.Kinds as put-digits-kinds
-use Rattle.text.proofs.+put_digits.Lts-put_digits as put-digits-lts
-use Rattle.text.proofs.digit.Reads as digit-reads
-use Rattle.text.proofs.+put_digits.{statement}
-use Rattle.text.proofs.+put_digits.Tie.{close}
+use Rattle.text.proofs.inner.put_digits.Reads as put-digits
+use Rattle.text.proofs.inner.put_digits.Kinds as put-digits-kinds
+use Rattle.text.proofs.inner.+put_digits.Lts-put_digits as put-digits-lts
+use Rattle.text.proofs.inner.digit.Reads as digit-reads
+use Rattle.text.proofs.inner.+put_digits.{statement}
+use Rattle.text.proofs.inner.+put_digits.Tie.{close}
 
 abbrev μ-put-digits : Measures 1 put-digits-kinds.ps ℕ
 μ-put-digits κs a = a .1 .1 .0

@@ -7,8 +7,8 @@ use borrow.Author.Needs.{needs}
 use lib.IntN.{natAbs}
 use mir.Syntax.{w64}
 use Rattle.codec.proofs.Signs.{by-negative, cast-negative, cast-natural}
-use Rattle.text.proofs.magnitude.Statement.{statement}
-use Rattle.text.proofs.magnitude.Tie as tie
+use Rattle.text.proofs.inner.magnitude.Statement.{statement}
+use Rattle.text.proofs.inner.magnitude.Tie as tie
 
 cast-result : tie.Need-cast-result
 cast-result c = cast-negative w64 (c .before .args .x) (c .before .fits .x) (c .if1 .taken)
