@@ -23,6 +23,12 @@ pub enum Filled {
     Refused(u32, usize),
 }
 
+// The answer of a call that fills or moves entries: how many.
+pub enum Counted {
+    Entries(u32),
+    Refused(u32, usize),
+}
+
 // The most minutes of a series.
 pub const MINUTES: usize = Level::MINUTES as usize;
 // The minutes of a day: a series of no more is worked on in little memory.

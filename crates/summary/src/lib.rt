@@ -1,26 +1,13 @@
 // The library's entries for sums of a stretch, whose summary the caller keeps, in an object of their own. include/dawhikura.h declares them.
 
 ghost use mathlib.Core.Path.{_≡_};
-ghost use Prim.Native.Nat.{ℕ, _≤_};
-ghost use Rattle.level.specs.Answer.{refused};
-ghost use Rattle.console.specs.Code.{code, code-of-all, farthest};
-ghost use Rattle.sums.specs.Calls.{counted, buildOf, builtEntries, replaceOf, replacedSamples, replacedEntries};
+ghost use Rattle.console.specs.Code.{code, code-of-all};
+ghost use Rattle.sums.specs.Calls.{buildOf, builtEntries, replaceOf, replacedSamples, replacedEntries};
 ghost use Rattle.summary.specs.Entries.{summingOf, sumAfter};
+use console::inner::count;
 use console::inner::refusal;
 use series::Checked;
-use sums::Counted;
 use sums::Summed;
-
-// The result of filling or moving entries: how many.
-fn count(c: Counted) -> i64
-    requires { ⌜ ((number place : ℕ) → counted c ≡ refused number place → place ≤ farthest) ⌝ }
-    ensures { λ r. ⌜ r ≡ code (counted c) ⌝ }
-{
-    match c {
-        Counted::Entries(n) => n as i64,
-        Counted::Refused(number, place) => refusal(number, place),
-    }
-}
 
 #[no_mangle]
 pub extern "C" fn dawhikura_sums_build(samples: &[i32], summary: &mut [i64]) -> i64

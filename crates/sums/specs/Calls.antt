@@ -10,14 +10,8 @@ use Rattle.level.specs.Answer.{Answer, refused, given, refuse-if, refuse-at}
 use Rattle.series.specs.Answer.{refill, on-success}
 use Rattle.series.specs.Limits.{bad-sample, in-limits}
 use Rattle.sums.specs.Checkpoints.{sample, prefix-sums, checkpoint, read-sum, bad-rest, bad-total, first-bad}
-use Rattle.sums.specs.declared.Counted.{Counted}
-use Rattle.sums.specs.declared.Counted.the-variants as Counted
 use Rattle.sums.specs.declared.Summed.{Summed}
 use Rattle.sums.specs.declared.Summed.the-variants as Summed
-
-abbrev pub counted : Counted → Answer ℕ
-counted (Counted.Entries n) = given n
-counted (Counted.Refused number place) = refused number place
 
 abbrev pub summed : Summed → Answer ℤ
 summed (Summed.Total t) = given t

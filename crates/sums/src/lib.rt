@@ -2,19 +2,14 @@
 
 ghost use mathlib.Core.Path.{_≡_};
 ghost use Rattle.level.specs.Answer.{given, when-given};
-ghost use Rattle.series.specs.Answer.{checked};
+ghost use Rattle.series.specs.Answer.{checked, counted};
 ghost use Rattle.sums.specs.Checkpoints.{stretch-sum, Kept};
-ghost use Rattle.sums.specs.Calls.{counted, summed, buildOf, builtEntries, askable, betweenOf, replaceable, replaceOf, replacedSamples, replacedEntries};
+ghost use Rattle.sums.specs.Calls.{summed, buildOf, builtEntries, askable, betweenOf, replaceable, replaceOf, replacedSamples, replacedEntries};
 use series::Checked;
+use series::Counted;
 use series::MINUTES;
 
 mod checkpoints;
-
-// The answer of a call that fills or moves entries: how many.
-pub enum Counted {
-    Entries(u32),
-    Refused(u32, usize),
-}
 
 // The answer of a call that sums.
 pub enum Summed {

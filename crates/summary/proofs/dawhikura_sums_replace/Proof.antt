@@ -5,9 +5,10 @@ use native.Mathlib.Omega.{arith}
 use mir.Syntax.{w64}
 use mir.Val.{SFits}
 use mir.Facts.{toZ-ofZ}
+use Rattle.series.specs.Answer.{counted}
 use Rattle.series.proofs.PlaceLaws.{place-most}
 use Rattle.console.specs.Code.{code}
-use Rattle.sums.specs.Calls.{counted, replaceOf, replacedSamples, replacedEntries}
+use Rattle.sums.specs.Calls.{replaceOf, replacedSamples, replacedEntries}
 use Rattle.sums.proofs.PlaceLaws.{replace-placed}
 use Rattle.summary.proofs.dawhikura_sums_replace.Statement.{statement}
 use Rattle.summary.proofs.dawhikura_sums_replace.Tie as tie

@@ -1,14 +1,14 @@
--- `summary::count` meets its contract.
+-- `console::inner::count` meets its contract.
 use borrow.Author.Needs.{needs}
 use mathlib.Core.Path.{sym, ap, _∙_}
 use native.Mathlib.Omega.{arith}
 use mir.Syntax.{w64}
 use mir.Val.{SFits}
 use mir.Facts.{toZ-ofZ, toZ-pos}
+use Rattle.series.specs.Answer.{counted}
 use Rattle.console.specs.Code.{code}
-use Rattle.sums.specs.Calls.{counted}
-use Rattle.summary.proofs.count.Statement.{statement}
-use Rattle.summary.proofs.count.Tie as tie
+use Rattle.console.proofs.inner.count.Statement.{statement}
+use Rattle.console.proofs.inner.count.Tie as tie
 
 refusal-requires : tie.Need-refusal-requires
 refusal-requires c κs = let n = c .before in n .before .before .pre _ _ (ap counted (n .c2 .given .1))
