@@ -1,10 +1,11 @@
 #!/usr/bin/env python3
-"""Writes the example sheets beside this file; with --check only sees that they are those. The noise is a fixed sequence, so every run writes the same
-bytes.
+"""Writes the example sheets, and a table in CSV, beside this file; with --check only sees that they are those. The noise is a fixed sequence, so every run
+writes the same bytes.
 
     small.sheet          (0, 10) with smoothing 1, no line filed
     small_line.sheet     the same with its line, (1, 1)(1, 9)
     hour.sheet           60 minutes: two plateaus with noise
+    hour.csv             the samples of hour.sheet
     shift.sheet          480 minutes, eight hours: five plateaus and three short peaks, with noise; the picture in docs/line.svg
     month.sheet          44,640 minutes, 31 days: a delay that steps now and then, with noise
     wrong_line.sheet     (0, 10) with smoothing 1 and the line (1, 2)(1, 8): refused, 9 at minute 1
@@ -21,6 +22,10 @@ def sheet(samples, smoothing, line=(), last_field=0):
     n, m = len(samples), len(line)
     head = struct.pack("<4IQ2I", n, m, 32, 32 + 4 * n, smoothing, 32 + 4 * n + 12 * m, last_field)
     return head + struct.pack(f"<{n}i", *samples) + b"".join(struct.pack("<Iq", *s) for s in line)
+
+
+def csv(samples):
+    return "".join(f"{k},{y}\r\n" for k, y in enumerate(samples, 1)).encode()
 
 
 def noisy(levels):
@@ -44,10 +49,11 @@ def shift():
 
 
 small = sheet([0, 10], 1)
+hour = noisy([40] * 25 + [90] * 35)
 sheets = {
     "small": small,
     "small_line": sheet([0, 10], 1, [(1, 1), (1, 9)]),
-    "hour": sheet(noisy([40] * 25 + [90] * 35), 60),
+    "hour": sheet(hour, 60),
     "shift": sheet(noisy(shift()), 200),
     "month": sheet(noisy([30 + 20 * (k // 1440 % 5) + 60 * (k % 1440 // 480 == 1) for k in range(44640)]), 200),
     "wrong_line": sheet([0, 10], 1, [(1, 2), (1, 8)]),
@@ -55,10 +61,12 @@ sheets = {
     "far_sample": sheet([0, 16777217], 1),
     "cut": small[:31],
 }
+files = {f"{name}.sheet": content for name, content in sheets.items()}
+files["hour.csv"] = csv(hour)
 here = pathlib.Path(__file__).parent
 if "--check" in sys.argv:
-    good = {path.stem: path.read_bytes() for path in here.glob("*.sheet")} == sheets
-    print(f"examples: {len(sheets)} sheets" + ("" if good else "; the files differ"))
+    good = {path.name: path.read_bytes() for kind in ("sheet", "csv") for path in here.glob(f"*.{kind}")} == files
+    print(f"examples: {len(sheets)} sheets, 1 table" + ("" if good else "; the files differ"))
     sys.exit(0 if good else 1)
-for name, content in sheets.items():
-    (here / f"{name}.sheet").write_bytes(content)
+for name, content in files.items():
+    (here / name).write_bytes(content)

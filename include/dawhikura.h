@@ -11,9 +11,9 @@
  * short the sheet or the series; every other call needs 16 KiB.
  *
  * Time: dawhikura_sheet_complete and dawhikura_series_line_fast are linear on every input, as reading, writing, checking, charts and building a summary are:
- * some 7 ns a minute of noise, and up to 22 on the worst series found (README, "Speed"). dawhikura_series_line, dawhikura_series_fused_lasso,
- * dawhikura_series_balances, dawhikura_online_fetch and dawhikura_online_close, which need no long lists of their own, are as fast on noise but quadratic on some
- * series: a ramp of 65,536 minutes takes up to seven seconds.
+ * some 7 ns a minute of noise, and up to 22 on the worst series found (README, "Speed"); reading and writing CSV, linear too, take some 22 ns a minute.
+ * dawhikura_series_line, dawhikura_series_fused_lasso, dawhikura_series_balances, dawhikura_online_fetch and dawhikura_online_close, which need no long lists of
+ * their own, are as fast on noise but quadratic on some series: a ramp of 65,536 minutes takes up to seven seconds.
  *
  * A result below 0 is a refusal: minus (256 times the place, plus the number), so that for r < 0 the number is -r % 256 and the place -r / 256. A place is
  * at most 65,536, or at most the count of segments handed over; in a list of more than 2^54 segments a place above 2^54 is told as 2^54.
@@ -29,8 +29,10 @@
  *  13  the line has no such minute           14  the running series is closed
  *                                            15  a floor above 16,777,216
  *                                            16  the series has no such stretch or minute
+ *                                            17  a record that is not its minute's, place that record
  *
- * Of a summary 7 is an entry beyond its minutes times 16,777,216, place that entry. Minutes, segments and the entries of a summary are numbered from 1. */
+ * Of a summary 7 is an entry beyond its minutes times 16,777,216, place that entry. Minutes, segments,
+ * records and the entries of a summary are numbered from 1. */
 #ifndef DAWHIKURA_H
 #define DAWHIKURA_H
 
@@ -106,6 +108,18 @@ int64_t dawhikura_sums_between(const int32_t *samples, size_t minutes, const int
 /* Puts another sample in the place of a minute's, and moves the entries that count the minute by the difference; the result is their number, which may be 0.
  * Refusals 16 for a minute that the series does not have; 2; 5; 7 for an entry that is to be moved; 3 for the old sample or the new one. */
 int64_t dawhikura_sums_replace(int32_t *samples, size_t minutes, int64_t *summary, size_t summary_len, size_t minute, int32_t sample);
+
+/* A series as a table in CSV (RFC 4180), without quotes and without a header line: for each minute a record of the minute, from 1, a comma, its sample in
+ * tenths, CR and LF, the last one too. Numbers are in decimal, without a plus sign, a zero in front or a minus zero.
+ *
+ * Reads a table: the first entries of the list are its samples, and the result is their number, that of the records. CR LF divides records, and bytes after
+ * the last one are a record that is not ended. The list needs as many entries as there are records. Refusals 1; 2; 17 for a record that is not ended, or not
+ * just its minute, a comma and a number; 3, however many digits there are; 5. */
+int64_t dawhikura_csv_read(const uint8_t *text, size_t text_len, int32_t *samples, size_t samples_len);
+
+/* Writes the table of a series; reading gives the series again, and a table that was read is written as it was. The result is the number of bytes written,
+ * at most 17 a minute. Refusals 1, 2, 3, then 5 for a short output. */
+int64_t dawhikura_csv_write(const int32_t *samples, size_t minutes, uint8_t *out, size_t out_len);
 
 /* A segment of a line, as a record. */
 typedef struct { uint32_t length; int64_t total; } dawhikura_segment;

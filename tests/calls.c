@@ -14,6 +14,7 @@
 #include "harness.h"
 #include "hostile.h"
 #include "random.h"
+#include "reference_csv.h"
 #include "reference_floor.h"
 #include "reference_sums.h"
 
@@ -30,8 +31,8 @@ static void answers(const char *call, i64 got, i64 want)
 static int32_t y[MOST];
 static Line line, floored;
 static dawhikura_segment records[MOST];
-static uint8_t whole[SHEET], bare[SHEET];
-static size_t whole_size, bare_size;
+static uint8_t whole[SHEET], bare[SHEET], text[TEXT];
+static size_t whole_size, bare_size, text_size;
 
 /* worst ramps, which the ten steps do not draw in linear time: of the longest series and of a day */
 static struct {
@@ -63,12 +64,20 @@ typedef struct {
     int32_t samples[MOST];
 } Summed;
 
+/* the text of a series read, a part of it too, and written */
+typedef struct {
+    i64 results[3];
+    int32_t samples[MOST], part[MOST];
+    uint8_t text[TEXT];
+} Imported;
+
 enum { RESULTS = 17 };
 typedef struct {
     i64 results[RESULTS];
     Drawn drawn, floored, fast, fast_ramp[2];
     Taken noise, ramp;
     Summed summed;
+    Imported imported;
     uint32_t firsts[MOST], lasts[MOST], lengths_read[MOST];
     i64 balances[MOST], totals_read[MOST];
     double levels[MOST], mark[2];
@@ -120,6 +129,14 @@ static void sums_calls(Run *r)
     s->results[2] = dawhikura_sums_build(s->samples, MOST, s->kept, ENTRIES);
     s->results[3] = dawhikura_sums_replace(s->samples, MOST, s->kept, ENTRIES, REPLACED, LIMIT);
     s->results[4] = dawhikura_sums_between(s->samples, MOST, s->kept, ENTRIES, FIRST, LAST, s->after, 1);
+}
+
+static void csv_calls(Run *r)
+{
+    Imported *i = &r->imported;
+    i->results[0] = dawhikura_csv_read(text, text_size, i->samples, MOST);
+    i->results[1] = dawhikura_csv_read(text, text_size - 1, i->part, MOST);
+    i->results[2] = dawhikura_csv_write(y, MOST, i->text, TEXT);
 }
 
 /* a sheet with its line read, with too few fields too, and completed; and one without its line completed */
@@ -196,6 +213,18 @@ static void summed_right(const Summed *s)
     answers("a run's sum, replaced", s->after[0], reference_plain(samples, FIRST, LAST));
 }
 
+/* the samples of the text, none of its part, and the text again */
+static void imported_right(const Imported *r)
+{
+    static const int32_t none[MOST];
+    i64 want[] = {MOST, refusal(17, MOST), (i64)text_size};
+    for (int i = 0; i < 3; i++)
+        answers("a run's text", r->results[i], want[i]);
+    answers("a run's text, read", memcmp(r->samples, y, sizeof y), 0);
+    answers("a run's text, read in part", memcmp(r->part, none, sizeof none), 0);
+    answers("a run's text, written", memcmp(r->text, text, text_size), 0);
+}
+
 static void begin(void)
 {
     uint64_t state = 12345;
@@ -210,9 +239,11 @@ static void begin(void)
     }
     whole_size = reference_sheet(whole, y, MOST, 50, &line);
     bare_size = reference_sheet(bare, y, MOST, 50, NULL);
+    text_size = (size_t)reference_csv_write(y, MOST, text, TEXT);
     list_calls(&first);
     online_calls(&first);
     sums_calls(&first);
+    csv_calls(&first);
     sheet_calls(&first);
     fast_calls(&first);
     double mark[2];
@@ -230,6 +261,7 @@ static void begin(void)
     taken_right(&first.noise, y, MOST, 50, &line);
     taken_right(&first.ramp, ramps[1].y, ramps[1].n, ramps[1].lambda, &ramps[1].line);
     summed_right(&first.summed);
+    imported_right(&first.imported);
     answers("a run's mark", memcmp(first.mark, mark, sizeof mark), 0);
     answers("a run's samples", memcmp(first.samples_read, y, sizeof y), 0);
     answers("a run's line, read", memcmp(first.lengths_read, line.length, 4 * line.n) || memcmp(first.totals_read, line.total, 8 * line.n), 0);
@@ -369,6 +401,17 @@ static void nothing(void)
     answers("dawhikura_sums_replace, no summary", dawhikura_sums_replace(s, 2, NULL, 0, 1, 5), 0);
     answers("dawhikura_sums_replace, a month, no summary", dawhikura_sums_replace(y, MOST, NULL, 0, 1, 5), few);
     answers("dawhikura_sums_replace, nothing", dawhikura_sums_replace(NULL, 0, NULL, 0, 1, 5), away);
+
+    static const uint8_t two[] = "1,5\r\n2,10\r\n";
+    answers("dawhikura_csv_read", dawhikura_csv_read(two, 11, s, 2), 2);
+    answers("dawhikura_csv_read, no text", dawhikura_csv_read(NULL, 0, s, 2), none);
+    answers("dawhikura_csv_read, no samples", dawhikura_csv_read(two, 11, NULL, 0), few);
+    answers("dawhikura_csv_read, nothing", dawhikura_csv_read(NULL, 0, NULL, 0), none);
+
+    answers("dawhikura_csv_write", dawhikura_csv_write(s, 2, out, 64), 11);
+    answers("dawhikura_csv_write, no samples", dawhikura_csv_write(NULL, 0, out, 64), none);
+    answers("dawhikura_csv_write, no output", dawhikura_csv_write(s, 2, NULL, 0), few);
+    answers("dawhikura_csv_write, nothing", dawhikura_csv_write(NULL, 0, NULL, 0), none);
 }
 
 /* ---- the stack */
@@ -379,6 +422,7 @@ static void lists_there(void)
     list_calls(&small);
     online_calls(&small);
     sums_calls(&small);
+    csv_calls(&small);
 }
 
 static void sheets_there(void)
@@ -432,6 +476,7 @@ static void *rounds(void *run)
         fast_calls(run);
         online_calls(run);
         sums_calls(run);
+        csv_calls(run);
         list_calls(run);
         if (memcmp(run, &first, sizeof first))
             other = run;

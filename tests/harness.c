@@ -25,6 +25,10 @@ void fail(const char *what)
         printf(", sheet of %zu bytes", handed.size);
         for (size_t i = 0; i < handed.size && i < 800; i++)
             printf("%s%02x", i % 4 ? "" : " ", handed.sheet[i]);
+    } else if (handed.text) {
+        printf(", text of %zu bytes ", handed.size);
+        for (size_t i = 0; i < handed.size && i < 800; i++)
+            printf(handed.text[i] < ' ' || handed.text[i] > '~' ? "<%02x>" : "%c", handed.text[i]);
     } else {
         printf(", minutes %zu, minute %zu, smoothing %" PRIu64 ", floor %" PRIu64 ", samples", handed.minutes, handed.minute, handed.lambda, handed.mu);
         for (size_t i = 0; handed.y && i < handed.minutes && i < 64; i++)

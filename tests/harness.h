@@ -15,7 +15,7 @@ unsigned long arguments(int argc, char **argv, unsigned long count);
 /* ---- what is handed over, for the message */
 typedef struct {
     const char *call;
-    const uint8_t *sheet;
+    const uint8_t *sheet, *text; /* the bytes of either */
     size_t size;
     const int32_t *y;
     size_t minutes;
