@@ -1,26 +1,18 @@
 -- A pass over the records of a table that keeps the rules and the limits: each tells the delay of its minute.
 use mathlib.Core.Path.{_≡_, sym, ap, _∙_}
 use mathlib.Core.Bool.{true≢false}
-use mathlib.Core.List.{List, []}
+use mathlib.Core.List.{List}
 use native.Mathlib.Omega.{arith}
 use Prim.Native.Nat.{ℕ, suc, _≤_, _<_}
-use lib.ListN.{length, drop, getD, length-drop, length-map, List·getD-map}
+use lib.ListN.{length, drop, getD, length-drop}
 use lib.Seq.{drop-cons}
 use lib.IntN.{ℤ}
 use Rattle.series.specs.Limits.{bad-sample}
 use Rattle.series.proofs.SearchLaws.{none-picked}
 use Rattle.csv.specs.Format.{record-text}
-use Rattle.csv.specs.Records.{rows, delay, delays, breaks}
+use Rattle.csv.specs.Records.{rows, delays, breaks}
 use Rattle.csv.specs.Walk.{Kept}
-use Rattle.csv.proofs.RecordLaws.{record-delay}
-use Rattle.csv.proofs.PassLaws.{rows-at, rows-some, in-rows, in-place, in-rest, Turn, keeps, stops, clipped-is}
-
--- no record, and what it would tell
-abbrev nothing : ℕ × List ℕ
-nothing = (0, [])
-
-abbrev pub silence : ℤ
-silence = delay nothing
+use Rattle.csv.proofs.PassLaws.{rows-at, rows-some, nothing, silence, in-rest, in-delays, Turn, keeps, stops, clipped-is}
 
 -- after k records, the next is that of minute k + 1
 pub record Next (text : List ℕ) (k : ℕ) (v : ℤ) (n : ℕ) (at : ℕ) : Type 0 where
@@ -35,11 +27,10 @@ pub next : (text : List ℕ) (k at : ℕ) (v : ℤ) (n : ℕ) → Kept text → 
 next text k at v n w h q (keeps y m l g e) =
     let r : ℕ × List ℕ = (suc k, record-text (suc k) y) in
     let rs = rows-at text (suc (suc k)) m in
-    let here : k < length (delays text) = omega (arith, in-rows text k at q r rs e, length-map (rows text) delay) in
-    let told : getD (delays text) k silence ≡ y = List·getD-map delay (rows text) k nothing ∙ ap delay (in-place text k at q nothing r rs e) ∙ record-delay (suc k) y in
+    let d = in-delays text k at q y rs e in
     record {
-      within = here;
-      value = clipped-is y (ap bad-sample (sym told) ∙ none-picked bad-sample (delays text) 1 (w .delays) silence k here) ∙ sym told;
+      within = d .0;
+      value = clipped-is y (ap bad-sample (sym (d .1)) ∙ none-picked bad-sample (delays text) 1 (w .delays) silence k (d .0)) ∙ sym (d .1);
       on = l;
       end = g;
       rest = in-rest text k at q r rs e;

@@ -1,25 +1,24 @@
 -- A pass over the records of a text, from a place on.
 use mathlib.Core.Path.{_≡_, refl, sym, ap, _∙_}
-use mathlib.Core.Bool.{Bool, true, false, true≢false, not}
+use mathlib.Core.Bool.{Bool, true, false, true≢false}
 use mathlib.Core.List.{List, [], _∷_, _++_}
 use mathlib.Core.Logic.{⊎-elim}
-use mathlib.Core.Option.{none}
 use native.Mathlib.Nat.{add-zero}
 use native.Mathlib.Numerals.{add-one}
 use native.Mathlib.Omega.{arith}
 use Prim.Native.Nat.{ℕ, suc, _+_, _-_, _≤_, _<_, min}
 use lib.Dec.{eqb}
-use lib.ListN.{length, drop, getD, length-drop, drop-of-length-le}
+use lib.ListN.{length, drop, getD, length-drop, length-map, drop-of-length-le, List·getD-map}
 use lib.Seq.{drop-cons, drop-drop, getD-drop}
 use lib.IntN.{ℤ, pos, negsuc}
 use borrow.Author.Tests.{lt-ltb, le-ltb, ltb-false}
 use Rattle.integers.specs.Order.{le-or-lt}
 use Rattle.series.specs.Limits.{bad-sample}
 use Rattle.csv.specs.Format.{record-text}
-use Rattle.csv.specs.Records.{records, numbered, rows, delay, breaks}
+use Rattle.csv.specs.Records.{records, numbered, rows, delay, delays, breaks}
 use Rattle.csv.specs.Parsing.{ends, clipped, Starts, Tells, tells, lacks}
 use Rattle.csv.proofs.StartLaws.{both, starts-long, starts-rest, starts-append}
-use Rattle.csv.proofs.RecordLaws.{Cut, cut, first-record, record-some, keeps-record}
+use Rattle.csv.proofs.RecordLaws.{Cut, cut, first-record, record-some, record-delay, keeps-record}
 
 -- ---- how many are left, a record having begun or not
 abbrev pub left : Bool → List ℕ → ℕ
@@ -78,6 +77,13 @@ rows-some text minute at h =
     let c = cut (getD text at 0) (drop (suc at) text) in
     omega (arith, length-numbered minute (records (drop at text)), ap (λ l. length (records l)) (drop-cons text at 0 h), ap length (c .division))
 
+-- no record, and what it would tell
+abbrev pub nothing : ℕ × List ℕ
+nothing = (0, [])
+
+abbrev pub silence : ℤ
+silence = delay nothing
+
 -- after k records
 module _ (text : List ℕ) (k at : ℕ) (q : rows-at text (suc k) at ≡ drop k (rows text)) where
   -- what is at the start of the rest is the next of all
@@ -89,6 +95,15 @@ module _ (text : List ℕ) (k at : ℕ) (q : rows-at text (suc k) at ≡ drop k 
 
   pub in-rest : (r : ℕ × List ℕ) (rs : List (ℕ × List ℕ)) → rows-at text (suc k) at ≡ r ∷ rs → rs ≡ drop (suc k) (rows text)
   in-rest r rs e = sym (ap (drop 1) (sym q ∙ e)) ∙ drop-drop 1 k (rows text) ∙ ap (λ j. drop j (rows text)) (add-one k)
+
+  -- and its delay the next of theirs
+  pub in-delays : (y : ℤ) (rs : List (ℕ × List ℕ)) → rows-at text (suc k) at ≡ (suc k, record-text (suc k) y) ∷ rs →
+      (k < length (delays text)) × (getD (delays text) k silence ≡ y)
+  in-delays y rs e =
+      let r : ℕ × List ℕ = (suc k, record-text (suc k) y) in (
+        omega (arith, in-rows r rs e, length-map (rows text) delay),
+        List·getD-map delay (rows text) k nothing ∙ ap delay (in-place nothing r rs e) ∙ record-delay (suc k) y,
+      )
 
 -- what the record at a place says of them: it keeps the rules and the next is after it, or there is none that does
 pub data Turn (text : List ℕ) (minute at : ℕ) : ℤ → ℕ → Type 0 where

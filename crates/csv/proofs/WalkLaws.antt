@@ -6,7 +6,7 @@ use mathlib.Core.Option.{none}
 use native.Mathlib.Omega.{arith}
 use Prim.Native.Nat.{ℕ, zero, suc, _+_, _<_}
 use lib.Dec.{eqb}
-use lib.ListN.{length, take, getD, length-map, List·getD-map}
+use lib.ListN.{length, take, getD}
 use lib.Seq.{take-suc, length-take-le}
 use lib.IntN.{ℤ}
 use borrow.Author.Tests.{ne-eqb}
@@ -15,10 +15,10 @@ use Rattle.series.specs.Search.{first-from, first, place-of}
 use Rattle.series.specs.Limits.{bad-sample}
 use Rattle.series.proofs.SearchLaws.{some-append, none-append}
 use Rattle.csv.specs.Format.{record-text}
-use Rattle.csv.specs.Records.{rows, delay, delays, breaks}
+use Rattle.csv.specs.Records.{rows, delays, breaks}
 use Rattle.csv.specs.Walk.{Walks, Stops}
-use Rattle.csv.proofs.RecordLaws.{record-delay, record-keeps}
-use Rattle.csv.proofs.PassLaws.{rows-at, in-rows, in-place, in-rest, Turn, keeps, stops, bad-clipped}
+use Rattle.csv.proofs.RecordLaws.{record-keeps}
+use Rattle.csv.proofs.PassLaws.{rows-at, nothing, silence, in-rows, in-place, in-rest, in-delays, Turn, keeps, stops, bad-clipped}
 
 pub walks-none : (text : List ℕ) → Walks text 0 0 0
 unfolding first-from
@@ -47,16 +47,13 @@ module _ {A : Type 0} (picks : A → Bool) (xs : List A) (k : ℕ) (x : A) (h : 
 
 -- ---- a record more, and the end
 module _ (text : List ℕ) (k at far : ℕ) (w : Walks text k at far) where
-  abbrev nothing : ℕ × List ℕ
-  nothing = (0, [])
-
   pub walks-more : (v : ℤ) (n : ℕ) → Turn text (suc k) at v n → (n ≡ 0 → ⊥) → k < 65536 → Walks text (suc k) n (cond (eqb far 0 && bad-sample v) (suc k) far)
   walks-more v n (keeps y next l h e) g few =
       let r : ℕ × List ℕ = (suc k, record-text (suc k) y) in
       let rs = rows-at text (suc (suc k)) next in
       let here = in-rows text k at (w .rest) r rs e in
       let place = in-place text k at (w .rest) nothing r rs e in
-      let told : getD (delays text) k (delay nothing) ≡ y = List·getD-map delay (rows text) k nothing ∙ ap delay place ∙ record-delay (suc k) y in
+      let d = in-delays text k at (w .rest) y rs e in
       record {
         few = few;
         there = here;
@@ -64,8 +61,8 @@ module _ (text : List ℕ) (k at far : ℕ) (w : Walks text k at far) where
         rest = in-rest text k at (w .rest) r rs e;
         kept = none-more breaks (rows text) k nothing here (w .kept) (ap breaks place ∙ record-keeps (suc k) y);
         beyond =
-            place-more bad-sample (delays text) k (delay nothing) (omega (arith, length-map (rows text) delay)) far (w .beyond)
-            ∙ ap (λ b. place-of (cond (eqb far 0 && b) (suc k) far)) (ap bad-sample told ∙ sym (bad-clipped y));
+            place-more bad-sample (delays text) k silence (d .0) far (w .beyond)
+            ∙ ap (λ b. place-of (cond (eqb far 0 && b) (suc k) far)) (ap bad-sample (d .1) ∙ sym (bad-clipped y));
       }
   walks-more v n (stops f) g few = absurd (g refl)
 

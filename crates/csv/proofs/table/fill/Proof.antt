@@ -11,8 +11,8 @@ use mir.Val.{SFits, toZ, ofZ}
 use lib.ListN.{length, drop, getD, length-map, length-drop}
 use Rattle.series.proofs.ListLoop.{Copied, copied-more, copied-all}
 use Rattle.csv.specs.Records.{rows, delay, delays}
-use Rattle.csv.proofs.PassLaws.{rows-at, rows-some, rows-past, Turn, turn}
-use Rattle.csv.proofs.FillLaws.{silence, Next, next}
+use Rattle.csv.proofs.PassLaws.{rows-at, rows-some, rows-past, silence, Turn, turn}
+use Rattle.csv.proofs.FillLaws.{Next, next}
 use Rattle.csv.proofs.table.fill.Statement.{statement}
 use Rattle.csv.proofs.table.fill.Tie as tie
 
