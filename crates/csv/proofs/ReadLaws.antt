@@ -9,8 +9,8 @@ use lib.Dec.{eqb, ltb}
 use lib.ListN.{length, take, drop, getD, length-map, length-drop, take-append-drop}
 use lib.Seq.{drop-cons, take-all, length-take-le}
 use lib.IntN.{ℤ}
-use borrow.Author.Tests.{eqb-false, ltb-false, ne-eqb, lt-ltb, le-ltb}
-use Rattle.level.specs.Answer.{refused, given, refuse-if, refuse-at}
+use borrow.Author.Tests.{eqb-false, ltb-false}
+use Rattle.level.specs.Answer.{given}
 use Rattle.series.specs.Search.{first-from, first, place-of}
 use Rattle.series.specs.Limits.{bad-sample}
 use Rattle.series.proofs.AnswerLaws.{take-refill}
@@ -48,43 +48,34 @@ module _ (text : List ℕ) (entries : ℕ) where
         same-given (e5 .1),
       )
 
--- ---- the answer by a walk over the records that keep the rules
+-- ---- what a walk over the records that keep the rules tells of all of them
 module _ (text : List ℕ) (k at far : ℕ) (w : Walks text k at far) where
   pub walk-count : k + length (records (drop at text)) ≡ length (rows text)
   walk-count = omega (arith, ap length (w .rest), length-numbered (suc k) (records (drop at text)), length-drop k (rows text), w .there)
 
-  -- a record is left
-  walk-left : at < length text → k < length (rows text)
-  walk-left h = omega (arith, rows-some text (suc k) at h, ap length (w .rest), length-drop k (rows text))
-
-  pub walk-many : (entries : ℕ) → 65536 < length (rows text) → readOf text entries ≡ refused 2 0
-  walk-many entries h = rw (ne-eqb (length (rows text)) 0 (λ e. omega arith), lt-ltb 65536 (length (rows text)) h)
-
-  pub walk-wrong : (entries : ℕ) → at < length text → length (rows text) ≤ 65536 → (k < 65536 → Stops text k) → readOf text entries ≡ refused 17 (suc k)
+  -- a record is left: the first that breaks the rules
+  pub walk-wrong : at < length text → length (rows text) ≤ 65536 → (k < 65536 → Stops text k) → first breaks (rows text) ≡ some (suc k)
   unfolding first-from
-  walk-wrong entries h few stop =
-      let here = walk-left h in
+  walk-wrong h few stop =
+      let here : k < length (rows text) = omega (arith, rows-some text (suc k) at h, ap length (w .rest), length-drop k (rows text)) in
       let r = getD (rows text) k (0, []) in
       let q : drop k (rows text) ≡ r ∷ drop (suc k) (rows text) = drop-cons (rows text) k (0, []) here in
       let n : 1 + length (take k (rows text)) ≡ suc k = omega (arith, length-take-le k (rows text) (w .there)) in
-      let e : first breaks (rows text) ≡ some (suc k) =
       ap (first breaks) (sym (take-append-drop k (rows text)))
       ∙ none-append breaks (take k (rows text)) (drop k (rows text)) 1 (w .kept)
       ∙ ap₂ (first-from breaks) n q
-      ∙ rw (stop (omega arith) r (drop (suc k) (rows text)) q) in
-      rw (ne-eqb (length (rows text)) 0 (λ z. omega arith), le-ltb 65536 (length (rows text)) few, e)
+      ∙ rw (stop (omega arith) r (drop (suc k) (rows text)) q)
 
-  -- no record is left: 1, 3 and 5
+  -- no record is left
   module _ (h : length text ≤ at) where
-    pub walk-all : length (rows text) ≡ k
-    walk-all = omega (arith, ap length (sym (w .rest) ∙ rows-past text (suc k) at h), length-drop k (rows text), w .there)
+    walk-all : length (rows text) ≤ k
+    walk-all = omega (arith, ap length (sym (w .rest) ∙ rows-past text (suc k) at h), length-drop k (rows text))
 
-    pub walk-answer : (entries : ℕ) → readOf text entries ≡ refuse-if (eqb k 0) 1 0 (refuse-at (place-of far) 3 (room entries k))
-    walk-answer entries =
-        let kept : first breaks (rows text) ≡ none = ap (first breaks) (sym (take-all k (rows text) (omega (arith, walk-all)))) ∙ w .kept in
-        let beyond : first bad-sample (delays text) ≡ place-of far =
-        ap (first bad-sample) (sym (take-all k (delays text) (omega (arith, walk-all, length-map (rows text) delay)))) ∙ w .beyond in
-        rw (walk-all, le-ltb 65536 k (w .few), kept, beyond)
+    pub walk-kept : first breaks (rows text) ≡ none
+    walk-kept = ap (first breaks) (sym (take-all k (rows text) walk-all)) ∙ w .kept
+
+    pub walk-beyond : first bad-sample (delays text) ≡ place-of far
+    walk-beyond = ap (first bad-sample) (sym (take-all k (delays text) (omega (arith, walk-all, length-map (rows text) delay)))) ∙ w .beyond
 
 -- ---- the records put together are the text
 unfoldable joined : List (List ℕ) → List ℕ

@@ -35,15 +35,15 @@ fn readable(text: &[u8], entries: usize) -> Counted
     ensures { λ r. ⌜ counted r ≡ readOf (now (text .entry)) entries ⌝ }
 {
     let w = table::walk(text);
-    let minutes = w.minutes;
-    if w.at < text.len() {
-        if minutes + table::count(text, w.at) > MINUTES {
-            return Counted::Refused(2, 0);
-        }
-        return Counted::Refused(17, minutes + 1);
-    }
+    let minutes = w.minutes + table::count(text, w.at);
     if minutes == 0 {
         return Counted::Refused(1, 0);
+    }
+    if minutes > MINUTES {
+        return Counted::Refused(2, 0);
+    }
+    if w.at < text.len() {
+        return Counted::Refused(17, w.minutes + 1);
     }
     if w.far != 0 {
         return Counted::Refused(3, w.far);
