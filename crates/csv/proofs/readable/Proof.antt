@@ -49,6 +49,7 @@ few c = le-ltb 65536 (n (c .before .before .before)) (omega (arith, all (c .befo
 kept : (c : tie.Else3) → first breaks (rows (text (c .before .before .before .before .before))) ≡ none
 kept c = walk-kept _ _ _ _ (c .before .before .before .before .before .before .walk .ensures .0) (c .if3 .left)
 
+-- all but 5
 module _ (c : tie.Else4) where
   abbrev counted : tie.After-count
   counted = c .before .before .before .before .before .before .before
