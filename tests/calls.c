@@ -402,13 +402,15 @@ static void nothing(void)
     answers("dawhikura_sums_replace, a month, no summary", dawhikura_sums_replace(y, MOST, NULL, 0, 1, 5), few);
     answers("dawhikura_sums_replace, nothing", dawhikura_sums_replace(NULL, 0, NULL, 0, 1, 5), away);
 
+    /* in memory that can only be read */
     static const uint8_t two[] = "1,5\r\n2,10\r\n";
+    static const int32_t two_delays[] = {5, -10};
     answers("dawhikura_csv_read", dawhikura_csv_read(two, 11, s, 2), 2);
     answers("dawhikura_csv_read, no text", dawhikura_csv_read(NULL, 0, s, 2), none);
     answers("dawhikura_csv_read, no samples", dawhikura_csv_read(two, 11, NULL, 0), few);
     answers("dawhikura_csv_read, nothing", dawhikura_csv_read(NULL, 0, NULL, 0), none);
 
-    answers("dawhikura_csv_write", dawhikura_csv_write(s, 2, out, 64), 11);
+    answers("dawhikura_csv_write", dawhikura_csv_write(two_delays, 2, out, 64), 12);
     answers("dawhikura_csv_write, no samples", dawhikura_csv_write(NULL, 0, out, 64), none);
     answers("dawhikura_csv_write, no output", dawhikura_csv_write(s, 2, NULL, 0), few);
     answers("dawhikura_csv_write, nothing", dawhikura_csv_write(NULL, 0, NULL, 0), none);
