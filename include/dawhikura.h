@@ -31,8 +31,8 @@
  *                                            16  the series has no such stretch or minute
  *                                            17  a record that is not its minute's, place that record
  *
- * Of a summary 7 is an entry beyond its minutes times 16,777,216, place that entry. Minutes, segments,
- * records and the entries of a summary are numbered from 1. */
+ * Of a summary 7 is an entry beyond its minutes times 16,777,216, place that entry. Minutes, segments, records and the entries of a summary are numbered
+ * from 1. */
 #ifndef DAWHIKURA_H
 #define DAWHIKURA_H
 
