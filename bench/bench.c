@@ -1,8 +1,8 @@
 /* Measures the line by the ten steps (ours) and in linear time (fast) beside the same exact steps in C from two compilers, an exact taut string and Condat's
  * floating-point code, on the same samples; looks for the series on which fast takes longest; then whole sheets, and charts of their lines, beside a copy of
- * the sheets' bytes; then months still running, beside the line; then sums of a stretch and tables in CSV, beside plain loops. Prints nanoseconds a minute, of
- * sums also a call, of CSV also MB a second, the best of several rounds, and ours over each. The lines of the exact methods, and the results on sheets, of
- * charts, of months, of sums and of CSV, are first compared; a difference ends the run. */
+ * the sheets' bytes; then months still running, beside the line; then sums of a stretch, tables in CSV and counts of series, beside plain loops. Prints
+ * nanoseconds a minute, of sums also a call, of CSV also MB a second, of counts a series, the best of several rounds, and ours over each. The lines of the
+ * exact methods, and the results on sheets, of charts, of months, of sums, of CSV and of counts, are first compared; a difference ends the run. */
 #include <stdio.h>
 #include <string.h>
 
@@ -10,6 +10,7 @@
 #include "../tests/reference.h"
 #include "../tests/reference_floor.h"
 #include "baselines.h"
+#include "counts.h"
 #include "csv.h"
 #include "inputs.h"
 #include "measure.h"
@@ -305,5 +306,6 @@ int main(void)
     online_rows();
     sums_rows();
     csv_rows();
+    counts_rows();
     return 0;
 }

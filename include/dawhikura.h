@@ -30,6 +30,7 @@
  *                                            15  a floor above 16,777,216
  *                                            16  the series has no such stretch or minute
  *                                            17  a record that is not its minute's, place that record
+ *                                            24  series of more than 6 minutes, or a top value above 9, to be counted
  *
  * Of a summary 7 is an entry beyond its minutes times 16,777,216, place that entry. Minutes, segments, records and the entries of a summary are numbered
  * from 1. */
@@ -120,6 +121,11 @@ int64_t dawhikura_csv_read(const uint8_t *text, size_t text_len, int32_t *sample
 /* Writes the table of a series; reading gives the series again, and a table that was read is written as it was. The result is the number of bytes written,
  * at most 17 a minute. Refusals 1, 2, 3, then 5 for a short output. */
 int64_t dawhikura_csv_write(const int32_t *samples, size_t minutes, uint8_t *out, size_t out_len);
+
+/* How often chance draws a step. Of all series of so many minutes, each sample a whole number from 0 to `top`, entry m of the list, numbered from 1, becomes the
+ * number of those whose line has m segments; there are (top + 1)^minutes of them, at most a million, and the entries add up to that. The list needs as many
+ * entries as there are minutes, which is the result. Each line is drawn, in some 20 ns. Refusals 1, 24, 4, 5. */
+int64_t dawhikura_step_counts(size_t minutes, uint32_t top, uint64_t smoothing, uint64_t *counts, size_t counts_len);
 
 /* A segment of a line, as a record. */
 typedef struct { uint32_t length; int64_t total; } dawhikura_segment;

@@ -14,6 +14,7 @@
 #include "harness.h"
 #include "hostile.h"
 #include "random.h"
+#include "reference_counts.h"
 #include "reference_csv.h"
 #include "reference_floor.h"
 #include "reference_sums.h"
@@ -71,6 +72,12 @@ typedef struct {
     uint8_t text[TEXT];
 } Imported;
 
+/* series counted by the segments of their lines */
+typedef struct {
+    i64 results[2];
+    uint64_t counts[FEW], of_one[1];
+} Counted;
+
 enum { RESULTS = 17 };
 typedef struct {
     i64 results[RESULTS];
@@ -78,6 +85,7 @@ typedef struct {
     Taken noise, ramp;
     Summed summed;
     Imported imported;
+    Counted counted;
     uint32_t firsts[MOST], lasts[MOST], lengths_read[MOST];
     i64 balances[MOST], totals_read[MOST];
     double levels[MOST], mark[2];
@@ -137,6 +145,14 @@ static void csv_calls(Run *r)
     i->results[0] = dawhikura_csv_read(text, text_size, i->samples, MOST);
     i->results[1] = dawhikura_csv_read(text, text_size - 1, i->part, MOST);
     i->results[2] = dawhikura_csv_write(y, MOST, i->text, TEXT);
+}
+
+/* the most minutes, few enough values for many rounds; and the highest top value */
+static void counts_calls(Run *r)
+{
+    Counted *c = &r->counted;
+    c->results[0] = dawhikura_step_counts(FEW, 4, 2, c->counts, FEW);
+    c->results[1] = dawhikura_step_counts(1, HIGHEST, SMOOTHEST, c->of_one, 1);
 }
 
 /* a sheet with its line read, with too few fields too, and completed; and one without its line completed */
@@ -225,6 +241,14 @@ static void imported_right(const Imported *r)
     answers("a run's text, written", memcmp(r->text, text, text_size), 0);
 }
 
+static void counted_right(const Counted *c)
+{
+    uint64_t want[FEW];
+    answers("a run's counts", c->results[0], reference_counts(FEW, 4, 2, FEW, want));
+    answers("a run's counts of segments", memcmp(c->counts, want, sizeof want), 0);
+    answers("a run's counts of a minute", c->results[1] == 1 && c->of_one[0] == HIGHEST + 1, 1);
+}
+
 static void begin(void)
 {
     uint64_t state = 12345;
@@ -244,6 +268,7 @@ static void begin(void)
     online_calls(&first);
     sums_calls(&first);
     csv_calls(&first);
+    counts_calls(&first);
     sheet_calls(&first);
     fast_calls(&first);
     double mark[2];
@@ -262,6 +287,7 @@ static void begin(void)
     taken_right(&first.ramp, ramps[1].y, ramps[1].n, ramps[1].lambda, &ramps[1].line);
     summed_right(&first.summed);
     imported_right(&first.imported);
+    counted_right(&first.counted);
     answers("a run's mark", memcmp(first.mark, mark, sizeof mark), 0);
     answers("a run's samples", memcmp(first.samples_read, y, sizeof y), 0);
     answers("a run's line, read", memcmp(first.lengths_read, line.length, 4 * line.n) || memcmp(first.totals_read, line.total, 8 * line.n), 0);
@@ -414,6 +440,10 @@ static void nothing(void)
     answers("dawhikura_csv_write, no samples", dawhikura_csv_write(NULL, 0, out, 64), none);
     answers("dawhikura_csv_write, no output", dawhikura_csv_write(s, 2, NULL, 0), few);
     answers("dawhikura_csv_write, nothing", dawhikura_csv_write(NULL, 0, NULL, 0), none);
+
+    answers("dawhikura_step_counts", dawhikura_step_counts(2, 9, 1, fields, 3), 2);
+    answers("dawhikura_step_counts, no counts", dawhikura_step_counts(2, 9, 1, NULL, 0), few);
+    answers("dawhikura_step_counts, no minutes, no counts", dawhikura_step_counts(0, 9, 1, NULL, 0), none);
 }
 
 /* ---- the stack */
@@ -425,6 +455,7 @@ static void lists_there(void)
     online_calls(&small);
     sums_calls(&small);
     csv_calls(&small);
+    counts_calls(&small);
 }
 
 static void sheets_there(void)
@@ -479,6 +510,7 @@ static void *rounds(void *run)
         online_calls(run);
         sums_calls(run);
         csv_calls(run);
+        counts_calls(run);
         list_calls(run);
         if (memcmp(run, &first, sizeof first))
             other = run;

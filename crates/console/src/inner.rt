@@ -1,4 +1,5 @@
-// Results for C, for the crates running, floored, summary and exchange too. Not for users: a place that is handed over here is one that the caller has bounded.
+// Results for C, for the crates running, floored, summary, exchange and tally too. Not for users: a place that is handed over here is one that the caller has
+// bounded.
 
 ghost use mathlib.Core.Path.{_≡_};
 ghost use Prim.Native.Nat.{ℕ, _≤_};
