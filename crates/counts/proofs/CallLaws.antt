@@ -16,26 +16,19 @@ use Rattle.series.proofs.PlaceLaws.{Placed, unrefused, if-placed}
 use Rattle.series.proofs.Refusals.{never, if-past, Alike, if-alike}
 use Rattle.counts.specs.EverySeries.{every-series}
 use Rattle.counts.specs.Known.{most-series}
-use Rattle.counts.specs.Counts.{with-segments, step-counts, HowMany, countable, countsOf}
+use Rattle.counts.specs.Counts.{with-segments, step-counts, HowMany, Countable, countable, countsOf}
 use Rattle.counts.proofs.CountLaws.{counts-length, entry-is, add-up, how-many}
 
 module _ (minutes top smoothing entries : ℕ) where
-  pub record Countable : Type 0 where
-    pub some : 0 < minutes
-    pub few : minutes ≤ 6
-    pub low : top ≤ 9
-    pub smooth : smoothing ≤ 1099511627776
-    pub room : minutes ≤ entries
-
   -- a value comes after all tests
-  pub countable-given : {A : Type 0} {a : Answer A} {x : A} → countable minutes top smoothing entries a ≡ given x → Countable × (a ≡ given x)
+  pub countable-given : {A : Type 0} {a : Answer A} {x : A} → countable minutes top smoothing entries a ≡ given x → Countable minutes top smoothing entries × (a ≡ given x)
   countable-given e =
       let e1 = if-past (eqb minutes 0) never e in
       let e24 = if-past (ltb 6 minutes || ltb 9 top) never (e1 .1) in
       let e4 = if-past (ltb 1099511627776 smoothing) never (e24 .1) in
       let e5 = if-past (ltb entries minutes) never (e4 .1) in
       let q = or-false (ltb 6 minutes) (ltb 9 top) (e24 .0) in
-      let C : Countable =
+      let C : Countable minutes top smoothing entries =
       record {
         some = let k = eqb-false minutes 0 (e1 .0) in omega arith;
         few = ltb-false 6 minutes (q .0);

@@ -19,9 +19,9 @@ use Rattle.optimality.specs.Theorems as Theorems
 use Rattle.series.proofs.OptimalityLaws.{line-meets, meets-line}
 use Rattle.counts.specs.EverySeries.{numbers, every-series, InRange}
 use Rattle.counts.specs.Counts.{segment-count, has-segments, with-segments, counts-among, step-counts, HasLine, HowMany}
-use Rattle.counts.specs.Walk.{after, walked}
+use Rattle.counts.specs.Walk.{series-after, series-passed}
 use Rattle.counts.proofs.SeriesLaws.{each-series, series-once}
-use Rattle.counts.proofs.WalkLaws.{after-length, walked-all}
+use Rattle.counts.proofs.WalkLaws.{after-length, passed-all}
 
 -- ---- numbers in a row
 length-numbers : (i n : ℕ) → length (numbers i n) ≡ n
@@ -146,12 +146,12 @@ one-more (x ∷ l) zero h = omega arith
 one-more (x ∷ l) (suc i) h = omega (arith, one-more l i (omega arith))
 
 module _ (smoothing top n : ℕ) (some : 0 < n) where
-  passed-sum : (c : ℕ) → foldr _+_ 0 (counts-among smoothing n (walked top c (replicate n (pos 0)))) ≡ c
-  unfolding walked
+  passed-sum : (c : ℕ) → foldr _+_ 0 (counts-among smoothing n (series-passed top c (replicate n (pos 0)))) ≡ c
+  unfolding series-passed
   passed-sum zero = ap (foldr _+_ 0) (counts-none smoothing n) ∙ no-sum n
   passed-sum (suc c) =
-      let series = walked top c (replicate n (pos 0)) in
-      let ys = after top c (replicate n (pos 0)) in
+      let series = series-passed top c (replicate n (pos 0)) in
+      let ys = series-after top c (replicate n (pos 0)) in
       let long : length ys ≡ n = after-length top c (replicate n (pos 0)) ∙ length-replicate n (pos 0) in
       let s = some-segments smoothing ys (omega arith) in
       let f = few-segments smoothing ys (omega arith) in
@@ -161,7 +161,7 @@ module _ (smoothing top n : ℕ) (some : 0 < n) where
 
   -- all series are counted
   pub add-up : foldr _+_ 0 (step-counts n top smoothing) ≡ suc top ^ n
-  add-up = ap (λ l. foldr _+_ 0 (counts-among smoothing n l)) (sym (walked-all top n)) ∙ passed-sum (suc top ^ n)
+  add-up = ap (λ l. foldr _+_ 0 (counts-among smoothing n l)) (sym (passed-all top n)) ∙ passed-sum (suc top ^ n)
 
 -- ---- each entry
 module _ (smoothing m : ℕ) (ys : List ℤ) (some : 0 < length ys) where

@@ -4,7 +4,7 @@ use mathlib.Core.Bool.{_||_}
 use mathlib.Core.Logic.{_↔_}
 use mathlib.Core.List.{List, map, filter, List·Mem, List·Nodup}
 use native.Mathlib.Decide.{ℕ-discrete}
-use Prim.Native.Nat.{ℕ}
+use Prim.Native.Nat.{ℕ, _<_, _≤_}
 use lib.Dec.{eqb, ltb}
 use lib.ListN.{length}
 use lib.IntN.{ℤ, pos}
@@ -45,6 +45,14 @@ pub record HowMany (minutes top smoothing m c : ℕ) : Type 0 where
   pub each : (ys : List ℤ) → List·Mem ys series ↔ ((length ys ≡ minutes) × InRange top ys × HasLine smoothing m ys)
   pub once : List·Nodup series
   pub many : c ≡ length series
+
+-- what is asked of a call that is not refused
+pub record Countable (minutes top smoothing entries : ℕ) : Type 0 where
+  pub some : 0 < minutes
+  pub few : minutes ≤ 6
+  pub low : top ≤ 9
+  pub smooth : smoothing ≤ 1099511627776
+  pub room : minutes ≤ entries
 
 -- 1, 24, 4 and 5, then what comes after them: for a list of so many entries (RULES 14.3)
 abbrev pub countable : {A : Type 0} → (minutes top smoothing entries : ℕ) → Answer A → Answer A

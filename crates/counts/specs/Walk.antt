@@ -6,16 +6,16 @@ use Prim.Native.Nat.{ℕ, zero, suc}
 use lib.IntN.{ℤ, pos, _+ℤ_}
 use lib.Signed.{ltZ}
 
-unfoldable pub next : (top : ℕ) → List ℤ → List ℤ
-next top [] = []
-next top (y ∷ ys) = cond (ltZ y (pos top)) ((y +ℤ pos 1) ∷ ys) (pos 0 ∷ next top ys)
+unfoldable pub next-series : (top : ℕ) → List ℤ → List ℤ
+next-series top [] = []
+next-series top (y ∷ ys) = cond (ltZ y (pos top)) ((y +ℤ pos 1) ∷ ys) (pos 0 ∷ next-series top ys)
 
 -- c turns after a series
-unfoldable pub after : (top c : ℕ) → List ℤ → List ℤ
-after top zero ys = ys
-after top (suc c) ys = next top (after top c ys)
+unfoldable pub series-after : (top c : ℕ) → List ℤ → List ℤ
+series-after top zero ys = ys
+series-after top (suc c) ys = next-series top (series-after top c ys)
 
 -- the c series from one on
-unfoldable pub walked : (top c : ℕ) → List ℤ → List (List ℤ)
-walked top zero ys = []
-walked top (suc c) ys = walked top c ys ++ after top c ys ∷ []
+unfoldable pub series-passed : (top c : ℕ) → List ℤ → List (List ℤ)
+series-passed top zero ys = []
+series-passed top (suc c) ys = series-passed top c ys ++ series-after top c ys ∷ []

@@ -1,23 +1,19 @@
 // Every series in turn, and its line. What these functions ask for, their callers have tested.
 
 ghost use mathlib.Core.Path.{_≡_};
-ghost use Prim.Native.Nat.{suc, _^_, _<_, _≤_};
+ghost use Prim.Native.Nat.{suc, _^_, _≤_};
 ghost use lib.ListN.{length, replicate};
 ghost use lib.IntN.{pos};
 ghost use Rattle.series.specs.Answer.{refill};
 ghost use Rattle.counts.specs.EverySeries.{InRange};
-ghost use Rattle.counts.specs.Counts.{step-counts};
-ghost use Rattle.counts.specs.Walk.{next};
+ghost use Rattle.counts.specs.Counts.{step-counts, Countable};
+ghost use Rattle.counts.specs.Walk.{next-series};
 use crate::MINUTES;
 use denoise::inner;
 
 // The counts where nothing is refused.
 pub(crate) fn count(minutes: usize, top: u32, smoothing: u64, counts: &mut [u64])
-    requires { ⌜ 0 < minutes ⌝ }
-    requires { ⌜ minutes ≤ 6 ⌝ }
-    requires { ⌜ top ≤ 9 ⌝ }
-    requires { ⌜ smoothing ≤ 1099511627776 ⌝ }
-    requires { ⌜ minutes ≤ length (now counts) ⌝ }
+    requires { ⌜ Countable minutes top smoothing (length (now counts)) ⌝ }
     ensures { λ _. ⌜ now (counts .exit) ≡ refill (step-counts minutes top smoothing) (now (counts .entry)) ⌝ }
 {
     let mut samples = [0i32; MINUTES];
@@ -31,10 +27,7 @@ pub(crate) fn count(minutes: usize, top: u32, smoothing: u64, counts: &mut [u64]
 
 // From the series of zeros on, once through all series of so many samples: each is counted by the segments of its line.
 fn walk(top: u32, smoothing: u64, samples: &mut [i32], counts: &mut [u64])
-    requires { ⌜ top ≤ 9 ⌝ }
-    requires { ⌜ smoothing ≤ 1099511627776 ⌝ }
-    requires { ⌜ 0 < length (now samples) ⌝ }
-    requires { ⌜ length (now samples) ≤ 6 ⌝ }
+    requires { ⌜ Countable (length (now samples)) top smoothing (length (now counts)) ⌝ }
     requires { ⌜ now samples ≡ replicate (length (now samples)) (pos 0) ⌝ }
     requires { ⌜ length (now counts) ≡ length (now samples) ⌝ }
     ensures { λ _. ⌜ now (samples .exit) ≡ now (samples .entry) ⌝ }
@@ -83,7 +76,7 @@ fn number(minutes: usize, top: u32) -> usize
 fn advance(samples: &mut [i32], top: u32)
     requires { ⌜ top ≤ 9 ⌝ }
     requires { ⌜ InRange top (now samples) ⌝ }
-    ensures { λ _. ⌜ now (samples .exit) ≡ next top (now (samples .entry)) ⌝ }
+    ensures { λ _. ⌜ now (samples .exit) ≡ next-series top (now (samples .entry)) ⌝ }
 {
     let mut k = 0;
     while k < samples.len() {

@@ -6,8 +6,8 @@ use lib.ListN.{length}
 use Rattle.level.specs.Answer.{refused, given}
 use Rattle.series.specs.Answer.{checked, passing}
 use Rattle.series.proofs.Refusals.{pass, stopped, passed}
-use Rattle.counts.specs.Counts.{countable, countsOf}
-use Rattle.counts.proofs.CallLaws.{Countable, countable-given, countable-alike, filled-each, filled-all}
+use Rattle.counts.specs.Counts.{Countable, countable, countsOf}
+use Rattle.counts.proofs.CallLaws.{countable-given, countable-alike, filled-each, filled-all}
 use Rattle.counts.proofs.step_counts.Statement.{statement}
 use Rattle.counts.proofs.step_counts.Tie as tie
 
@@ -35,7 +35,7 @@ module _ (c : tie.After-enum-told) where
   succeeds = let a = s .args in passed (countable-alike (a .minutes) (a .top) (a .smoothing) (length (a .counts .now)) pass) told .1
 
 count-requires : tie.Need-count-requires
-count-requires c κs = let p = no-refusal (c .before) in (p .some, (p .few, (p .low, (p .smooth, p .room))))
+count-requires c κs = no-refusal (c .before)
 
 cast-t13 : tie.Need-cast-t13
 cast-t13 c = record { fits = omega (arith, no-refusal (c .before .before .before .before) .few) }

@@ -7,32 +7,29 @@ use native.Mathlib.Omega.{arith}
 use Prim.Native.Nat.{ℕ, zero, suc, _+_, _-_, _<_, _≤_}
 use mir.Syntax.{w32}
 use mir.Val.{toZ, ofZ}
-use lib.ListN.{length, getD, set, drop, replicate, length-replicate, replicate-append-replicate}
+use lib.ListN.{length, getD, set, drop, replicate, length-replicate}
 use lib.Seq.{drop-cons, drop-length, append-snoc, set-at, getD-at}
 use lib.IntN.{ℤ, pos, _+ℤ_}
 use lib.Signed.{ltZ}
 use Rattle.integers.specs.Order.{_⩽_, _⋖_, lt-true, lt-false}
 use Rattle.integers.specs.Linear.{int, size}
 use Rattle.integers.specs.Bounds.{Upto, Atmost, cleaning, fit, clean}
-use Rattle.series.proofs.ListLoop.{Begins, begins-more}
+use Rattle.series.proofs.ListLoop.{Begins}
 use Rattle.counts.specs.EverySeries.{InRange}
-use Rattle.counts.specs.Walk.{next}
-use Rattle.counts.proofs.WalkLaws.{next-up, next-over}
+use Rattle.counts.specs.Walk.{next-series}
+use Rattle.counts.proofs.WalkLaws.{one-more, filled-more, next-up, next-over}
 use Rattle.counts.proofs.walk.advance.Statement.{statement}
 use Rattle.counts.proofs.walk.advance.Tie as tie
 
 abbrev Inv-loop : tie.InvT-loop
 Inv-loop samples₀ top k₀ samples k =
-    (k ≤ length samples₀) × Begins samples₀ (replicate k (pos 0)) k samples × (next top samples₀ ≡ replicate k (pos 0) ++ next top (drop k samples₀))
+    (k ≤ length samples₀) × Begins samples₀ (replicate k (pos 0)) k samples × (next-series top samples₀ ≡ replicate k (pos 0) ++ next-series top (drop k samples₀))
 
 abbrev μ-loop : tie.MeasureT-loop
 μ-loop samples₀ top k₀ samples k = length samples₀ - k
 
 loop-holds : tie.Need-loop-holds Inv-loop μ-loop
 loop-holds c = (omega arith, (refl, refl), refl)
-
-one-more : (k : ℕ) → replicate (k + 1) (pos 0) ≡ replicate k (pos 0) ++ pos 0 ∷ []
-one-more k = sym (replicate-append-replicate {A = ℤ} k 1 (pos 0))
 
 -- ---- sample k
 module _ (top : ℕ) (ys : List ℤ) (k : ℕ) (inside : k < length ys) where
@@ -46,15 +43,15 @@ module _ (top : ℕ) (ys : List ℤ) (k : ℕ) (inside : k < length ys) where
   here e = rw (e, drop-cons ys k (pos 0) inside) (getD-at before y (drop (suc k) ys) (pos 0) k (length-replicate k (pos 0)))
 
   -- the last one that changes
-  up-at : {zs : List ℤ} → zs ≡ before ++ drop k ys → next top ys ≡ before ++ next top (drop k ys) → y ⋖ pos top → set zs k (y +ℤ pos 1) ≡ next top ys
+  up-at : {zs : List ℤ} → zs ≡ before ++ drop k ys → next-series top ys ≡ before ++ next-series top (drop k ys) → y ⋖ pos top → set zs k (y +ℤ pos 1) ≡ next-series top ys
   up-at e f h =
       rw (e, f, drop-cons ys k (pos 0) inside, next-up top y (drop (suc k) ys) h)
       (set-at before y (drop (suc k) ys) (y +ℤ pos 1) k (length-replicate k (pos 0)))
 
   -- it is at the top
-  over-at : next top ys ≡ before ++ next top (drop k ys) → pos top ⩽ y → next top ys ≡ replicate (k + 1) (pos 0) ++ next top (drop (k + 1) ys)
+  over-at : next-series top ys ≡ before ++ next-series top (drop k ys) → pos top ⩽ y → next-series top ys ≡ replicate (k + 1) (pos 0) ++ next-series top (drop (k + 1) ys)
   over-at f h =
-      f ∙ rw (one-more k, add-one k, drop-cons ys k (pos 0) inside, next-over top y (drop (suc k) ys) h) (sym (append-snoc before (pos 0) (next top (drop (suc k) ys))))
+      f ∙ rw (one-more (pos 0) k, add-one k, drop-cons ys k (pos 0) inside, next-over top y (drop (suc k) ys) h) (sym (append-snoc before (pos 0) (next-series top (drop (suc k) ys))))
 
 range-at : (top : ℕ) (ys : List ℤ) (k : ℕ) → InRange top ys → k < length ys → (pos 0 ⩽ getD ys k (pos 0)) × (getD ys k (pos 0) ⩽ pos top)
 unfolding InRange
@@ -113,12 +110,12 @@ loop-again c =
     let b = c .before in
     let l = b .before .before .loop in (
       omega arith,
-      rw (one-more (k b)) (begins-more (ys b) (replicate (k b) (pos 0)) (k b) (l .samples) (pos 0) (length-replicate (k b) (pos 0)) (inside b) (l .inv .1)),
+      filled-more (pos 0) (ys b) (k b) (l .samples) (inside b) (l .inv .1),
       over-at (top b) (ys b) (k b) (inside b) (l .inv .2) (lt-false (sym (tested b) ∙ c .if1 .left)),
     )
 
 returns-2 : tie.Need-returns-2 Inv-loop μ-loop
-unfolding next
+unfolding next-series
 returns-2 c =
     let a = c .before in
     let ys = a .before .args .samples .now in

@@ -1,12 +1,13 @@
 -- `counts::walk::clear` meets its contract: after k turns the first k entries are 0.
 use borrow.Author.Needs.{needs}
-use mathlib.Core.Path.{_≡_, refl, sym, _∙_}
+use mathlib.Core.Path.{_≡_, refl, _∙_}
 use mathlib.Core.List.{append-nil}
 use native.Mathlib.Omega.{arith}
 use Prim.Native.Nat.{ℕ, _-_, _≤_}
-use lib.ListN.{length, replicate, length-replicate, replicate-append-replicate}
+use lib.ListN.{length, replicate}
 use lib.Seq.{drop-length}
-use Rattle.series.proofs.ListLoop.{Begins, begins-more}
+use Rattle.series.proofs.ListLoop.{Begins}
+use Rattle.counts.proofs.WalkLaws.{filled-more}
 use Rattle.counts.proofs.walk.clear.Statement.{statement}
 use Rattle.counts.proofs.walk.clear.Tie as tie
 
@@ -20,10 +21,7 @@ loop-holds : tie.Need-loop-holds Inv-loop μ-loop
 loop-holds c = (omega arith, (refl, refl))
 
 loop-again : tie.Need-loop-again Inv-loop μ-loop
-loop-again c =
-    let l = c .before .loop in
-    let k = l .k in
-    (omega arith, rw (sym (replicate-append-replicate {A = ℕ} k 1 0)) (begins-more _ (replicate k 0) k (l .counts) 0 (length-replicate k 0) (omega arith) (l .inv .1)))
+loop-again c = let l = c .before .loop in (omega arith, filled-more 0 _ (l .k) (l .counts) (omega arith) (l .inv .1))
 
 returns : tie.Need-returns Inv-loop μ-loop
 returns c =

@@ -9,7 +9,7 @@ use lib.Seq.{length-take-le}
 use lib.IntN.{pos}
 use Rattle.series.specs.Answer.{refill}
 use Rattle.counts.specs.EverySeries.{every-series}
-use Rattle.counts.specs.Counts.{step-counts}
+use Rattle.counts.specs.Counts.{step-counts, Countable}
 use Rattle.counts.proofs.CountLaws.{counts-length}
 use Rattle.counts.proofs.walk.count.Statement.{statement}
 use Rattle.counts.proofs.walk.count.Tie as tie
@@ -24,20 +24,22 @@ module _ (s : tie.Start) where
   n = s .args .minutes
 
   first-zeros : take n (replicate 6 (pos 0)) ≡ replicate n (pos 0)
-  first-zeros = zeros n 6 (s .pre .1 .0)
+  first-zeros = zeros n 6 (s .pre .few)
 
   long : length (take n (replicate 6 (pos 0))) ≡ n
   long = ap length first-zeros ∙ length-replicate n (pos 0)
 
   first-counts : length (take n (s .args .counts .now)) ≡ n
-  first-counts = length-take-le n (s .args .counts .now) (s .pre .1 .1 .1 .1)
+  first-counts = length-take-le n (s .args .counts .now) (s .pre .room)
 
 walk-requires : tie.Need-walk-requires
 walk-requires c κs =
     let s = c .before .before .before in
     let l = long s in
     let z = first-zeros s ∙ sym (ap (λ k. replicate k (pos 0)) l) in
-    (s .pre .1 .1 .0, (s .pre .1 .1 .1 .0, (omega (arith, s .pre .0), (omega (arith, s .pre .1 .0), (z, first-counts s ∙ sym l)))))
+    let W : Countable (n s) (s .args .top) (s .args .smoothing) (n s) =
+    record { some = s .pre .some; few = s .pre .few; low = s .pre .low; smooth = s .pre .smooth; room = omega arith } in
+    (rw (l, first-counts s) W, (z, first-counts s ∙ sym l))
 
 returns : tie.Need-returns
 unfolding refill

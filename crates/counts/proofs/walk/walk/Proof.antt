@@ -7,7 +7,7 @@ use lib.ListN.{length, getD}
 use Rattle.counts.specs.EverySeries.{every-series}
 use Rattle.counts.specs.Counts.{step-counts}
 use Rattle.counts.proofs.CountLaws.{counts-length}
-use Rattle.counts.proofs.TurnLaws.{Few, Turned, turned-first, turned-all, turned-long, turned-range, turned-limited, turned-some, turned-entry, turned-small, turned-more}
+use Rattle.counts.proofs.TurnLaws.{Turned, turned-first, turned-all, turned-long, turned-range, turned-limited, turned-some, turned-entry, turned-small, turned-more}
 use Rattle.counts.proofs.walk.walk.Statement.{statement}
 use Rattle.counts.proofs.walk.walk.Tie as tie
 
@@ -21,17 +21,14 @@ module _ (s : tie.Start Inv-loop μ-loop) where
   abbrev n : ℕ
   n = length (s .args .samples .now)
 
-  within : Few (s .args .top) n
-  within = record { low = s .pre .0; some = s .pre .1 .1 .0; few = s .pre .1 .1 .1 .0 }
-
 number-requires : tie.Need-number-requires Inv-loop μ-loop
-number-requires c κs = let s = c .before .before .before .before .before in (s .pre .1 .1 .1 .0, s .pre .0)
+number-requires c κs = let W = c .before .before .before .before .before .pre .0 in (W .few, W .low)
 
 loop-holds : tie.Need-loop-holds Inv-loop μ-loop
 loop-holds c =
     let d = c .before .before .before in
     let s = d .before .before .before in
-    turned-first (s .args .top) (s .args .smoothing) (n s) (s .pre .1 .1 .1 .1 .0) (rw (s .pre .1 .1 .1 .1 .1) at (d .clear .ensures))
+    turned-first (s .args .top) (s .args .smoothing) (n s) (s .pre .1 .0) (rw (s .pre .1 .1) at (d .clear .ensures))
 
 -- ---- the line
 slice-aggregate-draw : tie.Need-slice-aggregate-draw Inv-loop μ-loop
@@ -43,10 +40,10 @@ slice-aggregate-draw-2 c = sym (c .before .before .before .before .loop .inv .to
 draw-requires : tie.Need-draw-requires Inv-loop μ-loop
 draw-requires c κs =
     let l = c .before .before .before .before in
-    let s = l .before .before .before .before .before .before .before in
+    let W = l .before .before .before .before .before .before .before .pre .0 in
     let t = l .loop .inv in
-    let q = turned-long _ _ _ (within s) t in
-    (turned-limited _ _ _ (within s) t (s .pre .1 .0), (omega (arith, t .lengths, within s .few), omega (arith, t .totals, within s .few)))
+    let q = turned-long _ _ _ W t in
+    (turned-limited _ _ _ W t, (omega (arith, t .lengths, W .few), omega (arith, t .totals, W .few)))
 
 -- ---- where it is counted
 module _ (c : tie.After-draw Inv-loop μ-loop) where
@@ -60,13 +57,13 @@ module _ (c : tie.After-draw Inv-loop μ-loop) where
   m = c .draw .result
 
   above : 0 < m
-  above = turned-some _ _ _ (within s) (l .loop .inv) m (c .draw .ensures .0)
+  above = turned-some _ _ _ (s .pre .0) (l .loop .inv) m (c .draw .ensures .0)
 
   entry : m - 1 < length (l .loop .counts)
-  entry = turned-entry _ _ _ (within s) (l .loop .inv) m (c .draw .ensures .0)
+  entry = turned-entry _ _ _ (s .pre .0) (l .loop .inv) m (c .draw .ensures .0)
 
   small : getD (l .loop .counts) (m - 1) 0 ≤ 1000000
-  small = turned-small _ _ _ (within s) (l .loop .inv) m (c .draw .ensures .0)
+  small = turned-small _ _ _ (s .pre .0) (l .loop .inv) m (c .draw .ensures .0)
 
   all : l .before .number .result ≡ suc (s .args .top) ^ n s
   all = l .before .number .ensures
@@ -77,7 +74,7 @@ slice-read-counts c = let d = c .before .before .before in omega (arith, entry d
 advance-requires : tie.Need-advance-requires Inv-loop μ-loop
 advance-requires c κs =
     let d = c .before .before .before .before in
-    (s d .pre .0, turned-range _ _ _ (within (s d)) (l d .loop .inv))
+    (s d .pre .0 .low, turned-range _ _ _ (s d .pre .0) (l d .loop .inv))
 
 loop-again : tie.Need-loop-again Inv-loop μ-loop
 loop-again c =
@@ -86,7 +83,7 @@ loop-again c =
     let kept = d .draw .kept .1 .1 .1 in
     let q = all d in
     rw (c .before .advance .ensures)
-    (turned-more _ _ _ (within (s d)) t (m d) (d .draw .ensures .0) (omega arith) (kept .0 ∙ t .lengths) (kept .1 .0 ∙ t .totals))
+    (turned-more _ _ _ (s d .pre .0) t (m d) (d .draw .ensures .0) (omega arith) (kept .0 ∙ t .lengths) (kept .1 .0 ∙ t .totals))
 
 -- ---- once through all
 module _ (c : tie.After-loop Inv-loop μ-loop) where
@@ -98,13 +95,13 @@ module _ (c : tie.After-loop Inv-loop μ-loop) where
       let t = c .before .loop .inv in
       let q = c .before .before .number .ensures in
       let r = turned-all _ _ _ (omega (arith, t .upto)) t in
-      (r .0 ∙ sym (start .pre .1 .1 .1 .1 .0), r .1)
+      (r .0 ∙ sym (start .pre .1 .0), r .1)
 
 same-length : tie.Need-same-length Inv-loop μ-loop
 same-length c = ap length (ended c .0)
 
 same-length-2 : tie.Need-same-length-2 Inv-loop μ-loop
-same-length-2 c = let s = start c in ap length (ended c .1) ∙ counts-length (s .args .smoothing) (n s) (every-series (n s) (s .args .top)) ∙ sym (s .pre .1 .1 .1 .1 .1)
+same-length-2 c = let s = start c in ap length (ended c .1) ∙ counts-length (s .args .smoothing) (n s) (every-series (n s) (s .args .top)) ∙ sym (s .pre .1 .1)
 
 pub walk-spec : {M : Type 1} → statement M
 walk-spec =
