@@ -28,7 +28,7 @@ use Rattle.denoise.proofs.VariableLaws.{valid}
 use Rattle.denoise.proofs.WalkLoop.{starts}
 
 -- room for a portion
-pub portion-fits : {ys : List ℤ} {ns : List ℕ} {ts : List ℤ} → length ns ≡ 128 → length ts ≡ 128 → Fits ys 126 ns ts
+pub portion-fits : {ys : List ℤ} {from : Variables} {ns : List ℕ} {ts : List ℤ} → length ns ≡ 128 → length ts ≡ 128 → Fits ys from 126 ns ts
 portion-fits h k = record { room = λ m _ b. (omega arith, omega arith) }
 
 module _ (ys : List ℤ) (smoothing : ℕ) (W : Limited ys smoothing) where

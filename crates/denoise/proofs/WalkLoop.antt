@@ -201,13 +201,13 @@ module _ (ys : List ℤ) (smoothing : ℕ) (running : Bool) where
 
     module _ {lengths : List ℕ} {totals : List ℤ} {m : ℕ} {r : Variables} (K : Kept lengths totals m r) where
       -- there is room for a segment
-      few : Limited ys smoothing → m < length ys
-      few W = omega (arith, K .start, K .ahead, suc-before (r .k0) (K .good .first), known ys smoothing W (K .good) .from, known ys smoothing W (K .good) .upto)
+      few : Limited ys smoothing → from .k0 + m ≤ length ys
+      few W = omega (arith, K .ahead, suc-before (r .k0) (K .good .first), known ys smoothing W (K .good) .from, known ys smoothing W (K .good) .upto)
 
       pub tight : Limited ys smoothing → m < 65536
-      tight W = omega (arith, few W, W .few)
+      tight W = omega (arith, K .start, few W, W .few)
 
-      pub room : Limited ys smoothing → {budget : ℕ} → Fits ys budget a b → m ≤ budget + 1 → (m < length lengths) × (m < length totals)
+      pub room : Limited ys smoothing → {budget : ℕ} → Fits ys from budget a b → m ≤ budget + 1 → (m < length lengths) × (m < length totals)
       room W F h = let f = F .room m (few W) h in (omega (arith, f .0, lengths-long (K .written)), omega (arith, f .1, totals-long (K .written)))
 
       -- a minute more
@@ -227,7 +227,7 @@ module _ (ys : List ℤ) (smoothing : ℕ) (running : Bool) where
       }
 
       -- the last segment
-      module _ (W : Limited ys smoothing) {budget : ℕ} (F : Fits ys budget a b) (h : m ≤ budget + 1) where
+      module _ (W : Limited ys smoothing) {budget : ℕ} (F : Fits ys from budget a b) (h : m ≤ budget + 1) where
         within : m < length a
         within = F .room m (few W) h .0
 

@@ -34,8 +34,9 @@ short-take (suc m) [] = omega arith
 short-take (suc m) (x ∷ l) = omega (arith, short-take m l)
 
 -- room for each minute is enough
-pub each-fits : {ys : List ℤ} {budget : ℕ} {ns : List ℕ} {ts : List ℤ} → length ys ≤ length ns → length ys ≤ length ts → Fits ys budget ns ts
-each-fits h k = record { room = λ m l _. (omega arith, omega arith) }
+pub each-fits : {ys : List ℤ} {from : Variables} {budget : ℕ} {ns : List ℕ} {ts : List ℤ} → 0 < from .k0 → length ys ≤ length ns → length ys ≤ length ts →
+    Fits ys from budget ns ts
+each-fits f h k = record { room = λ m l _. (omega arith, omega arith) }
 
 module _ (ys : List ℤ) (smoothing : ℕ) (running : Bool) (W : Limited ys smoothing) where
   abbrev whole : List Segment

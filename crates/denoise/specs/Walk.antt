@@ -90,6 +90,6 @@ module _ (ys : List ℤ) (smoothing : ℕ) where
       pub fits : w .segments ≤ room
       pub reached : Reached from budget (w .segments) (w .next)
 
--- there are entries for each minute, or for two segments more than the budget: each has a minute that is looked at
-pub record Fits (ys : List ℤ) (budget : ℕ) (lengths : List ℕ) (totals : List ℤ) : Type 0 where
-  pub room : (m : ℕ) → m < length ys → m ≤ budget + 1 → (m < length lengths) × (m < length totals)
+-- there are entries for each minute from the start on, or for two segments more than the budget: each has a minute that is looked at
+pub record Fits (ys : List ℤ) (from : Variables) (budget : ℕ) (lengths : List ℕ) (totals : List ℤ) : Type 0 where
+  pub room : (m : ℕ) → from .k0 + m ≤ length ys → m ≤ budget + 1 → (m < length lengths) × (m < length totals)

@@ -92,7 +92,7 @@ pub(crate) fn walk(
 ) -> Walked
     requires { ⌜ Limited (now samples) smoothing ⌝ }
     requires { ⌜ Starts (now samples) smoothing from ⌝ }
-    requires { ⌜ Fits (now samples) budget (now lengths) (now totals) ⌝ }
+    requires { ⌜ Fits (now samples) from budget (now lengths) (now totals) ⌝ }
     ensures answer { λ w. ⌜ Walks (now (samples .entry)) smoothing running from budget (length (now (lengths .entry))) w ⌝ }
     ensures lengths { λ w. ⌜ now (lengths .exit) ≡ sets (now (lengths .entry)) 0
         (line-lengths (take (w .segments) (rest (now (samples .entry)) smoothing running from))) ⌝ }
