@@ -14,6 +14,7 @@ ghost use Rattle.series.specs.Answer.{refill};
 ghost use Rattle.denoise.specs.Variables.{dataOf, variablesOf};
 ghost use Rattle.denoise.specs.Attempt.{segmentsOf, leftOff, Attempts};
 ghost use Rattle.denoise.specs.Portion.{ahead, Stands, Portion};
+use super::forward;
 use super::steps;
 use super::steps::Variables;
 use super::walk;
@@ -70,9 +71,7 @@ pub fn attempt(
     ensures totals { λ r. ⌜ now (totals .exit) ≡
         refill (line-totals (take (segmentsOf r) (plain-line (pos smoothing) (now (samples .entry))))) (now (totals .entry)) ⌝ }
 {
-    // 1
-    let from = steps::step_1(samples, smoothing);
-    let w = walk::walk(samples, smoothing, false, from, budget, lengths, totals);
+    let w = forward::quick(samples, smoothing, budget, lengths, totals);
     let m = w.segments as u32;
     let next = w.next;
     match next {

@@ -11,6 +11,7 @@ ghost use Rattle.denoise.specs.Dual.{balancesOf, balancesAfter};
 use series::Checked;
 use series::Filled;
 
+mod forward;
 pub mod inner;
 pub mod steps;
 mod tracing;

@@ -58,7 +58,7 @@ fn scan(samples: &[i32], smoothing: u64, r: Variables) -> Scanned
 }
 
 // Steps 8 to 10, where k = N.
-fn finish(samples: &[i32], smoothing: u64, r: Variables) -> Finished
+pub(crate) fn finish(samples: &[i32], smoothing: u64, r: Variables) -> Finished
     requires { ⌜ Limited (now samples) smoothing ⌝ }
     requires { ⌜ Good (now samples) smoothing r ⌝ }
     requires { ⌜ r .k ≡ length (now samples) ⌝ }
@@ -159,7 +159,7 @@ fn looked_at(r: Variables) -> usize
 }
 
 // A part of x, written as segment m; and how many there are then.
-fn write(x: Span, m: usize, lengths: &mut [u32], totals: &mut [i64]) -> usize
+pub(crate) fn write(x: Span, m: usize, lengths: &mut [u32], totals: &mut [i64]) -> usize
     requires { ⌜ x .len ≤ 65536 ⌝ }
     requires { ⌜ m < length (now lengths) ⌝ }
     requires { ⌜ m < length (now totals) ⌝ }
@@ -174,7 +174,7 @@ fn write(x: Span, m: usize, lengths: &mut [u32], totals: &mut [i64]) -> usize
 }
 
 // The last part of x, and the end of the walk.
-fn last(x: Span, m: usize, lengths: &mut [u32], totals: &mut [i64]) -> Walked
+pub(crate) fn last(x: Span, m: usize, lengths: &mut [u32], totals: &mut [i64]) -> Walked
     requires { ⌜ x .len ≤ 65536 ⌝ }
     requires { ⌜ m < length (now lengths) ⌝ }
     requires { ⌜ m < length (now totals) ⌝ }
@@ -194,7 +194,7 @@ fn done(segments: usize) -> Walked
 }
 
 // The walk after some segments, with more to come.
-fn paused(segments: usize, r: Variables) -> Walked
+pub(crate) fn paused(segments: usize, r: Variables) -> Walked
     ensures { λ w. ⌜ w ≡ pausedOf segments r ⌝ }
 {
     let next = Next::At(r);

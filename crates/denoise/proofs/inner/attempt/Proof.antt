@@ -1,47 +1,36 @@
 -- `denoise::inner::attempt` meets its contract: the walk comes to the end, or to where the rest of the line can be drawn from.
 use borrow.Author.Needs.{needs}
-use mathlib.Core.Path.{_≡_, _∙_, ap, subst}
+use mathlib.Core.Path.{_≡_, refl, _∙_, ap, subst}
 use mathlib.Core.Bool.{false}
 use native.Mathlib.Omega.{arith}
 use lib.ListN.{length}
 use lib.IntN.{pos}
 use Rattle.optimality.specs.Machine.{plain-line}
 use Rattle.denoise.specs.Walk.{Reached, Pauses}
+use Rattle.denoise.specs.Forward.{start}
 use Rattle.denoise.specs.declared.steps.Variables.{Variables}
 use Rattle.denoise.specs.declared.walk.Next.{Next}
 use Rattle.denoise.specs.declared.walk.Next.the-variants as Next
-use Rattle.denoise.proofs.WalkedLine.{each-fits, starts-there, all-there, first-filled, few-written, inside, small-sum, small-sample, leaves-off}
+use Rattle.denoise.proofs.WalkedLine.{all-there, first-filled, few-written, inside, small-sum, small-sample, leaves-off}
 use Rattle.denoise.proofs.inner.attempt.Statement.{statement}
 use Rattle.denoise.proofs.inner.attempt.Tie as tie
 
-step-1-requires : tie.Need-step-1-requires
-step-1-requires c κs = c .before .pre .0
-
-walk-requires : tie.Need-walk-requires
-walk-requires c κs =
-    let s = c .before .before .before .before in
-    (s .pre .0, (starts-there _ _ false (s .pre .0) (c .before .before .step-1 .ensures .0), each-fits (starts-there _ _ false (s .pre .0) (c .before .before .step-1 .ensures .0) .good .first) (s .pre .1 .0) (s .pre .1 .1)))
-
-module _ (c : tie.After-walk) where
+module _ (c : tie.After-quick) where
   abbrev from : tie.Start
-  from = c .before .before .before .before .before
+  from = c .before .before .before .before
 
   abbrev Reach : Next → Type 0
-  Reach n = let a = from .args in Reached (a .samples .now) (a .smoothing) false (c .before .before .before .step-1 .result) (a .budget) (c .walk .result .segments) n
+  Reach n = let a = from .args in Reached (a .samples .now) (a .smoothing) false (start (a .samples .now) (a .smoothing)) (a .budget) (c .quick .result .segments) n
 
-  paused : (q : Variables) → c .walk .result .next ≡ Next.At q → let a = from .args in
-      Pauses (a .samples .now) (a .smoothing) false (c .before .before .before .step-1 .result) (a .budget) (c .walk .result .segments) q
-  paused q e = subst Reach e (c .walk .ensures .0 .reached)
+  paused : (q : Variables) → c .quick .result .next ≡ Next.At q → let a = from .args in
+      Pauses (a .samples .now) (a .smoothing) false (start (a .samples .now) (a .smoothing)) (a .budget) (c .quick .result .segments) q
+  paused q e = subst Reach e (c .quick .ensures .0 .reached)
 
-  done : c .walk .result .next ≡ Next.Done → c .walk .result .segments ≡ length (plain-line (pos (from .args .smoothing)) (from .args .samples .now))
-  done e =
-      subst Reach e (c .walk .ensures .0 .reached)
-      ∙ ap length (all-there _ _ false (from .pre .0) (c .before .before .before .step-1 .ensures .0))
+  done : c .quick .result .next ≡ Next.Done → c .quick .result .segments ≡ length (plain-line (pos (from .args .smoothing)) (from .args .samples .now))
+  done e = subst Reach e (c .quick .ensures .0 .reached) ∙ ap length (all-there _ _ false (from .pre .0) refl)
 
 cast-m : tie.Need-cast-m
-cast-m c =
-    let w = c .before .before .before .before in
-    omega (arith, few-written _ _ false (from w .pre .0) (w .before .before .before .step-1 .ensures .0) (w .walk .result) (w .walk .ensures .0))
+cast-m c = let w = c .before .before .before .before in omega (arith, few-written _ _ false (from w .pre .0) refl (w .quick .result) (w .quick .ensures .0))
 
 enum-told : tie.Need-enum-told
 enum-told c = search needs
@@ -54,8 +43,7 @@ left-off-requires c κs =
     let w = c .before .before .before .before .before .before .before in
     let P = paused w _ (c .before .next .given .1) in
     let W = from w .pre .0 in
-    let e = w .before .before .before .step-1 .ensures .0 in
-    (P .good .first, (inside _ _ W e P, (small-sum _ _ W e P, small-sample _ _ W e P)))
+    (P .good .first, (inside _ _ W refl P, (small-sum _ _ W refl P, small-sample _ _ W refl P)))
 
 same-length : tie.Need-same-length
 same-length c = search needs
@@ -67,10 +55,9 @@ returns : tie.Need-returns
 returns c =
     let w = c .before .before .before .before .before .before in
     let W = from w .pre .0 in
-    let e = w .before .before .before .step-1 .ensures .0 in
-    let l = first-filled _ _ false W e (λ g. g .len) (w .walk .result .segments) _ (from w .pre .1 .0) in
-    let t = first-filled _ _ false W e (λ g. g .total) (w .walk .result .segments) _ (from w .pre .1 .1) in
-    (done w (c .enum-told .given .1), (w .walk .ensures .1 .0 ∙ l, w .walk .ensures .1 .1 ∙ t))
+    let l = first-filled _ _ false W refl (λ g. g .len) (w .quick .result .segments) _ (from w .pre .1 .0) in
+    let t = first-filled _ _ false W refl (λ g. g .total) (w .quick .result .segments) _ (from w .pre .1 .1) in
+    (done w (c .enum-told .given .1), (w .quick .ensures .1 .0 ∙ l, w .quick .ensures .1 .1 ∙ t))
 
 same-length-3 : tie.Need-same-length-3
 same-length-3 c = search needs
@@ -82,11 +69,10 @@ returns-2 : tie.Need-returns-2
 returns-2 c =
     let w = c .before .before .before .before .before .before .before .before in
     let W = from w .pre .0 in
-    let e = w .before .before .before .step-1 .ensures .0 in
-    let l = first-filled _ _ false W e (λ g. g .len) (w .walk .result .segments) _ (from w .pre .1 .0) in
-    let t = first-filled _ _ false W e (λ g. g .total) (w .walk .result .segments) _ (from w .pre .1 .1) in
+    let l = first-filled _ _ false W refl (λ g. g .len) (w .quick .result .segments) _ (from w .pre .1 .0) in
+    let t = first-filled _ _ false W refl (λ g. g .total) (w .quick .result .segments) _ (from w .pre .1 .1) in
     let P = paused w _ (c .before .before .next .given .1) in
-    rw (c .left-off .ensures) (leaves-off _ _ W e P, (w .walk .ensures .1 .0 ∙ l, w .walk .ensures .1 .1 ∙ t))
+    rw (c .left-off .ensures) (leaves-off _ _ W refl P, (w .quick .ensures .1 .0 ∙ l, w .quick .ensures .1 .1 ∙ t))
 
 pub attempt-spec : {M : Type 1} → statement M
-attempt-spec = tie.close (tie.spec step-1-requires walk-requires cast-m enum-told enum-known-next left-off-requires same-length same-length-2 returns same-length-3 same-length-4 returns-2)
+attempt-spec = tie.close (tie.spec (λ c κs. search needs) cast-m enum-told enum-known-next left-off-requires same-length same-length-2 returns same-length-3 same-length-4 returns-2)
