@@ -15,8 +15,8 @@ pub fn decode(sheet: &[u8], f: Fields, ys: &mut [i32], ns: &mut [u32], ts: &mut 
     requires { ⌜ InOrder (now sheet) ⌝ }
     requires { ⌜ f ≡ fields (now sheet) ⌝ }
     requires { ⌜ f .minutes ≤ length (now ys) ⌝ }
-    requires { ⌜ f .minutes ≤ length (now ns) ⌝ }
-    requires { ⌜ f .minutes ≤ length (now ts) ⌝ }
+    requires { ⌜ f .segments ≤ length (now ns) ⌝ }
+    requires { ⌜ f .segments ≤ length (now ts) ⌝ }
     ensures { λ _. ⌜ now (ys .exit) ≡ samples (now (sheet .entry)) ++ drop (minutes (now (sheet .entry))) (now (ys .entry)) ⌝ }
     ensures { λ _. ⌜ now (ns .exit) ≡ lengths (now (sheet .entry)) ++ drop (segment-count (now (sheet .entry))) (now (ns .entry)) ⌝ }
     ensures { λ _. ⌜ now (ts .exit) ≡ totals (now (sheet .entry)) ++ drop (segment-count (now (sheet .entry))) (now (ts .entry)) ⌝ }

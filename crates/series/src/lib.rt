@@ -33,6 +33,8 @@ pub enum Counted {
 pub const MINUTES: usize = Level::MINUTES as usize;
 // The minutes of a day: a series of no more is worked on in little memory.
 pub const DAY: usize = 1_440;
+// The minutes of the longest month.
+pub const MONTH: usize = 44_640;
 // The most tenths of a sample, either way.
 pub const TENTHS: i32 = Level::TENTHS as i32;
 // The most smoothing: 2^40.

@@ -1,7 +1,7 @@
 -- The lists that are decoded from a sheet begin with its own: what the reader copies from them and what the completer writes is what their definitions say.
 use mathlib.Core.Path.{_≡_, sym, ap₂, _∙_}
 use mathlib.Core.List.{List, _++_}
-use Prim.Native.Nat.{ℕ}
+use Prim.Native.Nat.{ℕ, _≤_}
 use lib.ListN.{length, take, drop, length-map}
 use lib.Seq.{take-at}
 use lib.IntN.{ℤ, pos}
@@ -22,6 +22,15 @@ use Rattle.sheet.specs.Complete.{finishOf, completeOf, completedAfter, H
 use Rattle.layout.specs.declared.Fields.{Fields}
 use Rattle.sheet.proofs.SheetRefusals.{tested-alike}
 
+-- ---- the numbers of a header in order, as `f` has them
+module _ {s : List ℕ} {f : Fields} (e : f ≡ fields s) (o : InOrder s) where
+  pub minutes-few : f .minutes ≤ 65536
+  minutes-few = rw e (o .few)
+
+  pub segments-fewer : f .segments ≤ f .minutes
+  segments-fewer = rw e (o .fewer)
+
+-- ---- the lists
 module _ (s : List ℕ) (f : Fields) (e : f ≡ fields s) where
   module _ (ys ys₀ : List ℤ) (h : ys ≡ samples s ++ drop (minutes s) ys₀) where
     pub samples-loaded : take (f .minutes) ys ≡ samples s

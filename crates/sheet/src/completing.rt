@@ -1,6 +1,6 @@
 // Completing: the sheet's own line, or the one that is drawn.
 ghost use mathlib.Core.Path.{_≡_};
-ghost use Prim.Native.Nat.{_≤_};
+ghost use Prim.Native.Nat.{_<_, _≤_};
 ghost use lib.ListN.{length, take};
 ghost use lib.IntN.{pos};
 ghost use Rattle.optimality.specs.Machine.{plain-line};
@@ -21,6 +21,7 @@ use layout::inner::decode;
 use series::Checked;
 use series::DAY;
 use series::MINUTES;
+use series::MONTH;
 
 // With a header in order, of a sheet of up to a day.
 pub(crate) fn complete_small(sheet: &[u8], f: Fields, out: &mut [u8]) -> Written
@@ -36,7 +37,36 @@ pub(crate) fn complete_small(sheet: &[u8], f: Fields, out: &mut [u8]) -> Written
     complete_lists(sheet, f, out, &mut ys, &mut ns, &mut ts)
 }
 
-// Of a longer one.
+// Of a longer one, with a line of no more segments than a day has minutes.
+pub(crate) fn complete_few(sheet: &[u8], f: Fields, out: &mut [u8]) -> Written
+    requires { ⌜ InOrder (now sheet) ⌝ }
+    requires { ⌜ f ≡ fields (now sheet) ⌝ }
+    requires { ⌜ 0 < f .segments ⌝ }
+    requires { ⌜ f .segments ≤ 1440 ⌝ }
+    ensures { λ r. ⌜ written r ≡ completeOf (now (sheet .entry)) (now (out .entry)) ⌝ }
+    ensures { λ r. ⌜ now (out .exit) ≡ completedAfter (now (sheet .entry)) (now (out .entry)) ⌝ }
+{
+    let mut ys = [0i32; MINUTES];
+    let mut ns = [0u32; DAY];
+    let mut ts = [0i64; DAY];
+    complete_lists(sheet, f, out, &mut ys, &mut ns, &mut ts)
+}
+
+// Of one of up to a month.
+pub(crate) fn complete_month(sheet: &[u8], f: Fields, out: &mut [u8]) -> Written
+    requires { ⌜ InOrder (now sheet) ⌝ }
+    requires { ⌜ f ≡ fields (now sheet) ⌝ }
+    requires { ⌜ f .minutes ≤ 44640 ⌝ }
+    ensures { λ r. ⌜ written r ≡ completeOf (now (sheet .entry)) (now (out .entry)) ⌝ }
+    ensures { λ r. ⌜ now (out .exit) ≡ completedAfter (now (sheet .entry)) (now (out .entry)) ⌝ }
+{
+    let mut ys = [0i32; MONTH];
+    let mut ns = [0u32; MONTH];
+    let mut ts = [0i64; MONTH];
+    complete_lists(sheet, f, out, &mut ys, &mut ns, &mut ts)
+}
+
+// Of any other.
 pub(crate) fn complete_large(sheet: &[u8], f: Fields, out: &mut [u8]) -> Written
     requires { ⌜ InOrder (now sheet) ⌝ }
     requires { ⌜ f ≡ fields (now sheet) ⌝ }
@@ -49,7 +79,7 @@ pub(crate) fn complete_large(sheet: &[u8], f: Fields, out: &mut [u8]) -> Written
     complete_lists(sheet, f, out, &mut ys, &mut ns, &mut ts)
 }
 
-// With lists to work in.
+// With lists to work in. The two of the segments have room for those that are filed, or for as many as there are minutes where none are.
 fn complete_lists(
     sheet: &[u8],
     f: Fields,
@@ -61,8 +91,9 @@ fn complete_lists(
     requires { ⌜ InOrder (now sheet) ⌝ }
     requires { ⌜ f ≡ fields (now sheet) ⌝ }
     requires { ⌜ f .minutes ≤ length (now ys) ⌝ }
-    requires { ⌜ f .minutes ≤ length (now ns) ⌝ }
-    requires { ⌜ f .minutes ≤ length (now ts) ⌝ }
+    requires { ⌜ f .segments ≤ length (now ns) ⌝ }
+    requires { ⌜ f .segments ≤ length (now ts) ⌝ }
+    requires { ⌜ (f .segments ≡ 0 → (f .minutes ≤ length (now ns)) × (f .minutes ≤ length (now ts))) ⌝ }
     ensures { λ r. ⌜ written r ≡ completeOf (now (sheet .entry)) (now (out .entry)) ⌝ }
     ensures { λ r. ⌜ now (out .exit) ≡ completedAfter (now (sheet .entry)) (now (out .entry)) ⌝ }
 {
@@ -79,9 +110,9 @@ fn complete_lists(
 
 // The line in the first entries of the two lists, and the number of its segments: the sheet's own, which is checked, or the one that is drawn.
 fn line(f: Fields, ys: &[i32], ns: &mut [u32], ts: &mut [i64]) -> Drawn
-    requires { ⌜ f .segments ≤ length (now ys) ⌝ }
-    requires { ⌜ length (now ys) ≤ length (now ns) ⌝ }
-    requires { ⌜ length (now ys) ≤ length (now ts) ⌝ }
+    requires { ⌜ f .segments ≤ length (now ns) ⌝ }
+    requires { ⌜ f .segments ≤ length (now ts) ⌝ }
+    requires { ⌜ (f .segments ≡ 0 → (length (now ys) ≤ length (now ns)) × (length (now ys) ≤ length (now ts))) ⌝ }
     ensures { λ r. ⌜ drawn r ≡ in-limits (now (ys .entry)) (f .smoothing)
         (filed (now (ys .entry)) (f .smoothing) (take (f .segments) (now (ns .entry))) (take (f .segments) (now (ts .entry)))
         (given (length (plain-line (pos (f .smoothing)) (now (ys .entry)))))) ⌝ }

@@ -14,6 +14,7 @@ use layout::Reading;
 use layout::header;
 use series::Checked;
 use series::DAY;
+use series::MONTH;
 
 mod checking;
 mod completing;
@@ -41,6 +42,9 @@ pub fn read(sheet: &[u8], samples: &mut [i32], lengths: &mut [u32], totals: &mut
         Reading::Valid(f) => {
             if f.minutes <= DAY as u32 {
                 return reader::read_small(sheet, f, samples, lengths, totals);
+            }
+            if f.segments <= DAY as u32 {
+                return reader::read_few(sheet, f, samples, lengths, totals);
             }
             reader::read_large(sheet, f, samples, lengths, totals)
         }
@@ -84,6 +88,14 @@ pub fn complete(sheet: &[u8], out: &mut [u8]) -> Written
         Reading::Valid(f) => {
             if f.minutes <= DAY as u32 {
                 return completing::complete_small(sheet, f, out);
+            }
+            if f.segments > 0 {
+                if f.segments <= DAY as u32 {
+                    return completing::complete_few(sheet, f, out);
+                }
+            }
+            if f.minutes <= MONTH as u32 {
+                return completing::complete_month(sheet, f, out);
             }
             completing::complete_large(sheet, f, out)
         }

@@ -48,7 +48,38 @@ pub(crate) fn read_small(
     )
 }
 
-// Of a longer one.
+// Of a longer one with no more segments than a day has minutes.
+pub(crate) fn read_few(
+    sheet: &[u8],
+    f: Fields,
+    samples: &mut [i32],
+    lengths: &mut [u32],
+    totals: &mut [i64],
+) -> Reading
+    requires { ⌜ InOrder (now sheet) ⌝ }
+    requires { ⌜ f ≡ fields (now sheet) ⌝ }
+    requires { ⌜ f .segments ≤ 1440 ⌝ }
+    ensures { λ r. ⌜ headed r ≡ readOf (now (sheet .entry)) (now (samples .entry)) (now (lengths .entry)) (now (totals .entry)) ⌝ }
+    ensures { λ r. ⌜ now (samples .exit) ≡ samplesAfter (now (sheet .entry)) (now (samples .entry)) (now (lengths .entry)) (now (totals .entry)) ⌝ }
+    ensures { λ r. ⌜ now (lengths .exit) ≡ lengthsAfter (now (sheet .entry)) (now (samples .entry)) (now (lengths .entry)) (now (totals .entry)) ⌝ }
+    ensures { λ r. ⌜ now (totals .exit) ≡ totalsAfter (now (sheet .entry)) (now (samples .entry)) (now (lengths .entry)) (now (totals .entry)) ⌝ }
+{
+    let mut ys = [0i32; MINUTES];
+    let mut ns = [0u32; DAY];
+    let mut ts = [0i64; DAY];
+    read_lists(
+        sheet,
+        f,
+        samples,
+        lengths,
+        totals,
+        &mut ys,
+        &mut ns,
+        &mut ts,
+    )
+}
+
+// Of any other.
 pub(crate) fn read_large(
     sheet: &[u8],
     f: Fields,
@@ -92,8 +123,8 @@ fn read_lists(
     requires { ⌜ InOrder (now sheet) ⌝ }
     requires { ⌜ f ≡ fields (now sheet) ⌝ }
     requires { ⌜ f .minutes ≤ length (now ys) ⌝ }
-    requires { ⌜ f .minutes ≤ length (now ns) ⌝ }
-    requires { ⌜ f .minutes ≤ length (now ts) ⌝ }
+    requires { ⌜ f .segments ≤ length (now ns) ⌝ }
+    requires { ⌜ f .segments ≤ length (now ts) ⌝ }
     ensures { λ r. ⌜ headed r ≡ readOf (now (sheet .entry)) (now (samples .entry)) (now (lengths .entry)) (now (totals .entry)) ⌝ }
     ensures { λ r. ⌜ now (samples .exit) ≡ samplesAfter (now (sheet .entry)) (now (samples .entry)) (now (lengths .entry)) (now (totals .entry)) ⌝ }
     ensures { λ r. ⌜ now (lengths .exit) ≡ lengthsAfter (now (sheet .entry)) (now (samples .entry)) (now (lengths .entry)) (now (totals .entry)) ⌝ }

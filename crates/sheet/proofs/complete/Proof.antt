@@ -12,8 +12,15 @@ use Rattle.sheet.proofs.CompleteLaws.{promised}
 use Rattle.sheet.proofs.complete.Statement.{statement}
 use Rattle.sheet.proofs.complete.Tie as tie
 
+abbrev start : tie.After-f → tie.Start
+start v = v .before .before .before .before .before
+
+-- of a sheet longer than a day
+abbrev header : tie.After-struct-known2 → tie.After-f
+header c = c .before .before .before .before
+
 -- a header in order
-told : (v : tie.After-f) → let s = v .before .before .before .before .before .args .sheet .now in InOrder s × (v .f .given .0 .0 ≡ fields s)
+told : (v : tie.After-f) → let s = start v .args .sheet .now in InOrder s × (v .f .given .0 .0 ≡ fields s)
 told v =
     let h = v .before .before in
     let s = h .before .before .before .args .sheet .now in
@@ -26,25 +33,43 @@ complete-small-requires c κs = let t = told (c .before .before .before .before)
 returns : tie.Need-returns
 returns c =
     let d = c .before .before in
-    let g = d .before .before .before .before .before .before .before .before .before .before .args in
+    let g = start (d .before .before .before .before .before) .args in
     promised (g .sheet .now) (g .out .now) _ _ (d .complete-small .ensures)
 
-complete-large-requires : tie.Need-complete-large-requires
-complete-large-requires c κs = told (c .before .before .before .before)
+complete-few-requires : tie.Need-complete-few-requires
+complete-few-requires c κs = let t = told (header (c .before .before .before .before)) in (t .0, (t .1, (omega arith, omega arith)))
 
--- 10, 1, 2, 11 or 12
 returns-2 : tie.Need-returns-2
 returns-2 c =
+    let d = c .before .before in
+    let g = start (header (d .before .before .before .before .before)) .args in
+    promised (g .sheet .now) (g .out .now) _ _ (d .complete-few .ensures)
+
+complete-month-requires : tie.Need-complete-month-requires
+complete-month-requires c κs = let t = told (header (c .before .before .before .before)) in (t .0, (t .1, omega arith))
+
+returns-3 : tie.Need-returns-3
+returns-3 c =
+    let d = c .before .before in
+    let g = start (header (d .before .before .before .before .before)) .args in
+    promised (g .sheet .now) (g .out .now) _ _ (d .complete-month .ensures)
+
+complete-large-requires : tie.Need-complete-large-requires
+complete-large-requires c κs = told (header (c .before .before .before .before))
+
+-- 10, 1, 2, 11 or 12
+returns-4 : tie.Need-returns-4
+returns-4 c =
     let n = c .before in
     let h = n .before .before in
     let g = h .before .before .before .args in
     let r = stopped (head-alike (g .sheet .now) pass) (sym (h .read-header .ensures) ∙ ap headed (n .number .given .1)) in
     promised (g .sheet .now) (g .out .now) _ _ (sym r, rw r)
 
-returns-3 : tie.Need-returns-3
-returns-3 c =
+returns-5 : tie.Need-returns-5
+returns-5 c =
     let d = c .before .before in
-    let g = d .before .before .before .before .before .before .before .before .before .before .args in
+    let g = start (header (d .before .before .before .before .before)) .args in
     promised (g .sheet .now) (g .out .now) _ _ (d .complete-large .ensures)
 
 pub complete-spec : {M : Type 1} → statement M
@@ -58,7 +83,15 @@ complete-spec =
     complete-small-requires
     (λ c. search needs)
     returns
-    complete-large-requires
+    (λ c. search needs)
+    complete-few-requires
+    (λ c. search needs)
     returns-2
     (λ c. search needs)
-    returns-3)
+    complete-month-requires
+    (λ c. search needs)
+    returns-3
+    complete-large-requires
+    returns-4
+    (λ c. search needs)
+    returns-5)

@@ -12,8 +12,15 @@ use Rattle.sheet.proofs.ReadLaws.{promised}
 use Rattle.sheet.proofs.read.Statement.{statement}
 use Rattle.sheet.proofs.read.Tie as tie
 
+abbrev start : tie.After-f → tie.Start
+start v = v .before .before .before .before .before
+
+-- of a sheet longer than a day
+abbrev header : tie.After-struct-known2 → tie.After-f
+header c = c .before .before .before .before
+
 -- a header in order
-told : (v : tie.After-f) → let s = v .before .before .before .before .before .args .sheet .now in InOrder s × (v .f .given .0 .0 ≡ fields s)
+told : (v : tie.After-f) → let s = start v .args .sheet .now in InOrder s × (v .f .given .0 .0 ≡ fields s)
 told v =
     let h = v .before .before in
     let s = h .before .before .before .args .sheet .now in
@@ -26,25 +33,34 @@ read-small-requires c κs = let t = told (c .before .before .before .before .bef
 returns : tie.Need-returns
 returns c =
     let d = c .before .before .before .before in
-    let g = d .before .before .before .before .before .before .before .before .before .before .before .before .args in
+    let g = start (d .before .before .before .before .before .before .before) .args in
     promised (g .sheet .now) (g .samples .now) (g .lengths .now) (g .totals .now) _ _ _ _ (d .read-small .ensures)
 
-read-large-requires : tie.Need-read-large-requires
-read-large-requires c κs = told (c .before .before .before .before .before .before)
+read-few-requires : tie.Need-read-few-requires
+read-few-requires c κs = let t = told (header (c .before .before .before .before)) in (t .0, (t .1, omega arith))
 
--- 10, 1, 2, 11 or 12
 returns-2 : tie.Need-returns-2
 returns-2 c =
+    let d = c .before .before .before .before in
+    let g = start (header (d .before .before .before .before .before)) .args in
+    promised (g .sheet .now) (g .samples .now) (g .lengths .now) (g .totals .now) _ _ _ _ (d .read-few .ensures)
+
+read-large-requires : tie.Need-read-large-requires
+read-large-requires c κs = told (header (c .before .before .before .before))
+
+-- 10, 1, 2, 11 or 12
+returns-3 : tie.Need-returns-3
+returns-3 c =
     let n = c .before in
     let h = n .before .before in
     let g = h .before .before .before .args in
     let r = stopped (head-alike (g .sheet .now) pass) (sym (h .read-header .ensures) ∙ ap headed (n .number .given .1)) in
     promised (g .sheet .now) (g .samples .now) (g .lengths .now) (g .totals .now) _ _ _ _ (sym r, (rw r, (rw r, rw r)))
 
-returns-3 : tie.Need-returns-3
-returns-3 c =
+returns-4 : tie.Need-returns-4
+returns-4 c =
     let d = c .before .before .before .before in
-    let g = d .before .before .before .before .before .before .before .before .before .before .before .before .args in
+    let g = start (header (d .before .before .before .before .before)) .args in
     promised (g .sheet .now) (g .samples .now) (g .lengths .now) (g .totals .now) _ _ _ _ (d .read-large .ensures)
 
 pub read-spec : {M : Type 1} → statement M
@@ -60,9 +76,15 @@ read-spec =
     (λ c. search needs)
     (λ c. search needs)
     returns
-    read-large-requires
+    (λ c. search needs)
+    read-few-requires
+    (λ c. search needs)
+    (λ c. search needs)
+    (λ c. search needs)
     returns-2
+    read-large-requires
+    returns-3
     (λ c. search needs)
     (λ c. search needs)
     (λ c. search needs)
-    returns-3)
+    returns-4)

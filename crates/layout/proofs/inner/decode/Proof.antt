@@ -11,10 +11,10 @@ use Rattle.layout.proofs.inner.decode.Tie as tie
 
 -- the header's numbers, as `f` has them
 fits : (c : tie.Start) → let f = c .args .f in
-    (length (c .args .sheet .now) ≡ size (f .minutes) (f .segments)) × (f .minutes ≤ 65536) × (f .segments ≤ f .minutes)
+    (length (c .args .sheet .now) ≡ size (f .minutes) (f .segments)) × (f .minutes ≤ 65536)
 fits c =
     let o = c .pre .0 in
-    rw (c .pre .1 .0) (length-as-in-table _ (o .table), o .few, o .fewer)
+    rw (c .pre .1 .0) (length-as-in-table _ (o .table), o .few)
 
 read-samples-requires : tie.Need-read-samples-requires
 read-samples-requires c κs = omega (arith, fits (c .before .before .before .before .before))

@@ -2,7 +2,6 @@
 use mathlib.Core.Path.{sym, ap, _∙_, subst}
 use mathlib.Core.List.{List}
 use native.Mathlib.Omega.{arith}
-use Prim.Native.Nat.{_≤_}
 use borrow.Author.Needs.{needs}
 use lib.IntN.{ℤ, pos}
 use lib.ListN.{take}
@@ -12,12 +11,15 @@ use Rattle.optimality.specs.Machine.{plain-line}
 use Rattle.level.specs.Answer.{given, when-given}
 use Rattle.denoise.specs.Line.{drawn}
 use Rattle.sheet.specs.Complete.{Has}
-use Rattle.sheet.proofs.DecodedLists.{samples-loaded, lengths-loaded, totals-loaded, line-refused, completes}
+use Rattle.sheet.proofs.DecodedLists.{minutes-few, samples-loaded, lengths-loaded, totals-loaded, line-refused, completes}
 use Rattle.sheet.proofs.completing.complete_lists.Statement.{statement}
 use Rattle.sheet.proofs.completing.complete_lists.Tie as tie
 
 abbrev start : tie.After-decode → tie.Start
 start d = d .before .before .before .before .before .before .before
+
+decode-requires : tie.Need-decode-requires
+decode-requires c κs = let p = c .before .before .before .before .before .before .pre in (p .0, (p .1 .0, (p .1 .1 .0, (p .1 .1 .1 .0, p .1 .1 .1 .1 .0))))
 
 samples-length : tie.Need-slice-aggregate-line
 samples-length c = sym (length-take-le _ _ (omega (arith, start (c .before .before .before .before .before .before) .pre .1 .1)))
@@ -26,8 +28,8 @@ line-requires : tie.Need-line-requires
 line-requires c κs =
     let g = start (c .before .before .before .before .before .before .before .before) in
     let n = samples-length (c .before .before) in
-    let m : g .args .f .segments ≤ g .args .f .minutes = rw (g .pre .1 .0) (g .pre .0 .fewer) in
-    omega (arith, n, m, g .pre .1 .1)
+    let p = g .pre .1 .1 .1 in
+    (omega (arith, p), (omega (arith, p), λ z. omega (arith, n, p .1 .1 z)))
 
 -- ---- the line's answer, told of the sheet's lists
 module _ (l : tie.After-line) where
@@ -69,8 +71,7 @@ put-sheet-requires c κs =
     let m = a .before .before .m .given .0 .0 in
     let n = length-take-le m (d .line .last .1 .1 .0) (lengths-part a) in
     let t = length-take-le m (d .line .last .1 .1 .1 .0) (totals-part b) in
-    let few : h .args .f .minutes ≤ 65536 = rw (h .pre .1 .0) (h .pre .0 .few) in
-    (omega (arith, samples-length-2 a, few), (omega (arith, n, has (a .before .before) .few), n ∙ sym t))
+    (omega (arith, samples-length-2 a, minutes-few (h .pre .1 .0) (h .pre .0)), (omega (arith, n, has (a .before .before) .few), n ∙ sym t))
 
 -- 1, 2, 4, 3 or 6 to 9
 returns : tie.Need-returns
@@ -105,7 +106,7 @@ pub complete-lists-spec : {M : Type 1} → statement M
 complete-lists-spec =
     tie.close
     (tie.spec
-    (λ c κs. search needs)
+    decode-requires
     (λ c. search needs)
     (λ c. search needs)
     samples-length

@@ -47,7 +47,7 @@ returns-2 c =
     filed-line (g .args .ys .now) (g .args .f .smoothing) (g .args .ns .now) (g .args .ts .now) (g .args .f .segments) (c .if1 .taken) (omega (arith, g .pre)) (omega (arith, g .pre)) (passes e)
 
 draw-requires : tie.Need-draw-requires
-draw-requires c κs = let e = c .before .before .before in (within e, s e .pre .1)
+draw-requires c κs = let e = c .before .before .before in (within e, s e .pre .1 .1 (omega arith))
 
 returns-3 : tie.Need-returns-3
 returns-3 c =

@@ -1,10 +1,9 @@
 -- `sheet::reader::read_lists` meets its contract: `fill` is lent the sheet's own lists.
 use mathlib.Core.Path.{sym, _∙_}
 use native.Mathlib.Omega.{arith}
-use Prim.Native.Nat.{_≤_}
 use borrow.Author.Needs.{needs}
 use lib.Seq.{length-take-le}
-use Rattle.sheet.proofs.DecodedLists.{samples-loaded, lengths-loaded, totals-loaded, filled}
+use Rattle.sheet.proofs.DecodedLists.{segments-fewer, samples-loaded, lengths-loaded, totals-loaded, filled}
 use Rattle.sheet.proofs.reader.read_lists.Statement.{statement}
 use Rattle.sheet.proofs.reader.read_lists.Tie as tie
 
@@ -14,18 +13,14 @@ start d = d .before .before .before .before .before .before .before
 abbrev decoded : tie.After-fill-arg → tie.After-decode
 decoded c = c .before .before .before .before .before .before .before
 
--- as many segments as the lists have room for
-fewer : (d : tie.After-decode) → start d .args .f .segments ≤ start d .args .f .minutes
-fewer d = let g = start d in rw (g .pre .1 .0) (g .pre .0 .fewer)
-
 samples-length : tie.Need-slice-aggregate-fill
 samples-length c = sym (length-take-le _ _ (omega (arith, start (decoded c) .pre .1 .1)))
 
 lengths-part : tie.Need-slice-reshare-prefix-fill-2
-lengths-part c = omega (arith, fewer (decoded c), start (decoded c) .pre .1 .1)
+lengths-part c = omega (arith, start (decoded c) .pre .1 .1)
 
 totals-part : tie.Need-slice-reshare-prefix-fill-3
-totals-part c = omega (arith, fewer (decoded (c .before)), start (decoded (c .before)) .pre .1 .1)
+totals-part c = omega (arith, start (decoded (c .before)) .pre .1 .1)
 
 lengths-length : tie.Need-slice-aggregate-fill-2
 lengths-length c = sym (length-take-le _ _ (lengths-part (c .before)))
@@ -38,7 +33,8 @@ fill-requires c κs =
     let b = c .before .before .before in
     let a = b .before .before in
     let m = lengths-length (b .before) in
-    (sym (samples-length a), (sym m ∙ totals-length b, omega (arith, m, fewer (decoded a))))
+    let pre = start (decoded a) .pre in
+    (sym (samples-length a), (sym m ∙ totals-length b, omega (arith, m, segments-fewer (pre .1 .0) (pre .0))))
 
 returns : tie.Need-returns
 returns c =
