@@ -405,6 +405,13 @@ static void long_series(void)
         everywhere(y, n, 50, &line);
         chart(n, &line, 97);
     }
+    for (size_t m = DAY; m <= DAY + 1; m++) { /* the most segments in little memory, and one more, of a longer series */
+        for (size_t i = 0; i < 2 * m; i++)
+            y[i] = i / 2 % 2 * 1000;
+        reference_line_long(y, 2 * m, 1, &line);
+        must(line.n == m, 1);
+        everywhere(y, 2 * m, 1, &line);
+    }
     for (int32_t k = -1; k <= 1; k++) {
         y[0] = k * LIMIT;
         line.n = line.length[0] = 1;
