@@ -9,7 +9,7 @@ use native.Mathlib.Numerals.{add-one}
 use Prim.Native.Nat.{ℕ, suc, _+_, _*_, _-_, _<_, _≤_}
 use lib.ListN.{length, getD, set, take, drop, length-drop}
 use lib.Seq.{sets, drop-drop}
-use lib.IntN.{ℤ, pos, negℤ, natAbs, _+ℤ_, _*ℤ_, _-ℤ_}
+use lib.IntN.{ℤ, pos, natAbs, _+ℤ_, _*ℤ_, _-ℤ_}
 use lib.Signed.{ltZ}
 use Rattle.integers.specs.Order.{abs-*}
 use Rattle.integers.specs.Ring.{ring, reify}
@@ -19,8 +19,8 @@ use Rattle.optimality.specs.Segments.{Segment}
 use Rattle.optimality.specs.PlainSeries.{line-lengths, line-totals}
 use Rattle.optimality.specs.Machine.{Increments, State, on, emit, segment, begin, more, step}
 use Rattle.optimality.specs.MachineLaws.{left, lines}
-use Rattle.optimality.specs.StepTests.{U′, n′, test3, test4, keeps-min, keeps-max, step-inside}
-use Rattle.denoise.specs.Variables.{SmallMiddle, Small, dataOf, variablesOf, lowerOf, upperOf}
+use Rattle.optimality.specs.StepTests.{U′, n′, test3, step-inside}
+use Rattle.denoise.specs.Variables.{SmallMiddle, dataOf, variablesOf}
 use Rattle.denoise.specs.Variables as Ratios
 use Rattle.denoise.specs.Walk.{ScanIs, Good, rest, Walks, Fits, pausedOf}
 use Rattle.denoise.specs.Walk as Walk

@@ -4,12 +4,12 @@ use mathlib.Core.Path.{_≡_}
 use mathlib.Core.Bool.{Bool, cond}
 use mathlib.Core.List.{List}
 use mathlib.Core.Logic.{_⊎_}
-use Prim.Native.Nat.{ℕ, suc, _+_, _*_, _<_, _≤_}
+use Prim.Native.Nat.{ℕ, _+_, _*_, _<_, _≤_}
 use lib.ListN.{length, getD, drop}
 use lib.IntN.{ℤ, pos, _+ℤ_, _*ℤ_, _-ℤ_}
 use Rattle.integers.specs.Bounds.{Upto}
 use Rattle.optimality.specs.Segments.{Segment}
-use Rattle.optimality.specs.Machine.{State, Out, on, begin, fall, rise, step}
+use Rattle.optimality.specs.Machine.{State, on, begin, fall, rise, step}
 use Rattle.optimality.specs.MachineLaws.{lines}
 use Rattle.denoise.specs.Variables.{dataOf, variablesOf}
 use Rattle.denoise.specs.Walk.{Good}

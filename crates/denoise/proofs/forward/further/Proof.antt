@@ -2,12 +2,11 @@
 use borrow.Author.Needs.{needs}
 use mathlib.Core.Path.{_≡_}
 use Prim.Native.Nat.{_+_}
-use lib.IntN.{ℤ, _+ℤ_}
+use lib.IntN.{_+ℤ_}
 use mir.Syntax.{w32, w64}
 use mir.Val.{toZ, ofZ}
 use Rattle.integers.specs.Bounds.{cleaning, fit, clean}
-use Rattle.denoise.specs.Forward.{NearBound, timedFurther}
-use Rattle.denoise.specs.declared.forward.Bound.{Bound}
+use Rattle.denoise.proofs.VariableLaws.{total-read, further-read}
 use Rattle.denoise.proofs.forward.further.Statement.{statement}
 use Rattle.denoise.proofs.forward.further.Tie as tie
 
@@ -23,14 +22,6 @@ add-t8 c = let m = c .before .before .before .before .before .before .before .pr
 add-t10 : tie.Need-add-t10
 add-t10 c = let m = c .before .before .before .before .before .before .before .before .before .before .pre .0 .max in fit (search cleaning depth 12) tt
 
--- a bound, read back
-module _ (b : Bound) (h : NearBound b) where
-  total : toZ w64 (ofZ w64 (b .total)) ≡ b .total
-  total = clean (search cleaning depth 12) tt
-
-  times : toZ w64 (ofZ w64 (toZ w64 (ofZ w64 (b .times)) +ℤ toZ w64 (ofZ w64 (b .total)))) ≡ b .times +ℤ b .total
-  times = clean (search cleaning depth 12) tt
-
 returns : tie.Need-returns
 returns c =
     let s = c .before .before .before .before .before .before .before .before .before .before .before in
@@ -42,8 +33,8 @@ returns c =
     λ i. record {
       total = sum i;
       n = e .n + 1;
-      min = record { total = total (e .min) (near .min) i; n = e .min .n; times = times (e .min) (near .min) i };
-      max = record { total = total (e .max) (near .max) i; n = e .max .n; times = times (e .max) (near .max) i };
+      min = record { total = total-read (near .min .total) i; n = e .min .n; times = further-read (e .min) (near .min) i };
+      max = record { total = total-read (near .max .total) i; n = e .max .n; times = further-read (e .max) (near .max) i };
     }
 
 pub further-spec : {M : Type 1} → statement M

@@ -1,24 +1,11 @@
 -- `denoise::forward::variables` meets its contract.
 use borrow.Author.Needs.{needs}
-use mathlib.Core.Path.{_≡_, refl}
 use native.Mathlib.Numerals.{add-one}
 use Prim.Native.Nat.{_+_}
-use lib.IntN.{ℤ, pos}
-use mir.Syntax.{w64}
-use mir.Val.{toZ, ofZ}
-use Rattle.integers.specs.Bounds.{Upto, Atmost, cleaning, clean}
+use native.Mathlib.Omega.{arith}
+use Rattle.denoise.proofs.VariableLaws.{count-read, total-read}
 use Rattle.denoise.proofs.forward.variables.Statement.{statement}
 use Rattle.denoise.proofs.forward.variables.Tie as tie
-
--- a count and a total, read back
-count : {n : _} → Atmost 65536 n → toZ w64 n ≡ pos n
-count h = clean (search cleaning) tt
-
-total : {t : ℤ} → Upto 3298534883328 t → toZ w64 (ofZ w64 t) ≡ t
-total h = clean (search cleaning depth 12) tt
-
-sum : {t : ℤ} → Upto 2199023255552 t → toZ w64 (ofZ w64 t) ≡ t
-sum h = clean (search cleaning depth 12) tt
 
 returns : tie.Need-returns
 returns c =
@@ -27,12 +14,12 @@ returns c =
     let e = a .c in
     let k = add-one (a .i) in
     let near = s .pre .1 .0 in
-    let n = count (record { atmost = near .n }) in
-    let p = count (record { atmost = s .pre .1 .1 .0 }) in
-    let q = count (record { atmost = s .pre .1 .1 .1 }) in
-    let U = sum (near .total) in
-    let low = total (near .min .total) in
-    let high = total (near .max .total) in
+    let n = count-read (near .n) in
+    let p = count-read (s .pre .1 .1 .0) in
+    let q = count-read (s .pre .1 .1 .1) in
+    let U = total-read {t = e .total} (record { upto = omega (arith, near .total .upto) }) in
+    let low = total-read (near .min .total) in
+    let high = total-read (near .max .total) in
     λ i. record {
       k = a .i + e .n;
       k0 = k i;
