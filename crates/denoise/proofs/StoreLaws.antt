@@ -2,6 +2,7 @@
 use mathlib.Core.Path.{_≡_, refl, sym, ap, ap₂, _∙_}
 use mathlib.Core.List.{List, [], _∷_, _++_, map, append-nil}
 use native.Mathlib.Nat.{zero-add, suc-add}
+use native.Mathlib.Numerals.{add-one}
 use native.Mathlib.Omega.{arith}
 use Prim.Native.Nat.{ℕ, zero, suc, _+_, _-_, _≤_}
 use borrow.Rule.Slice.PartMut.{putMid, post-is}
@@ -38,6 +39,12 @@ module _ {A : Type 0} where
       ∙ ap (λ l. take m xs ++ l) (append-nil (sets (drop m xs) 0 zs))
       ∙ sets-part m xs zs
 
+  -- one store, and then more behind it
+  pub stored-first : {S : Type 0} (f : S → A) (xs : List A) (m w : ℕ) {x : S} {l r : List S} → r ≡ x ∷ l → {k : ℕ} → k ≡ m + 1 → {xs′ xs″ : List A} →
+      xs′ ≡ set xs m (f x) → xs″ ≡ sets xs′ k (map f (take w l)) → xs″ ≡ sets xs m (map f (take (w + 1) r))
+  stored-first f xs m w {x} {l} e h s t =
+      t ∙ ap₂ (λ ys j. sets ys j (map f (take w l))) s (h ∙ add-one m) ∙ sym (ap₂ (λ n r. sets xs m (map f (take n r))) (add-one w) e)
+
   -- the first m of a list, and then more of it, are its first
   pub stored-on : {S : Type 0} (f : S → A) (m w : ℕ) (l : List S) (i : ℕ) (xs : List A) → m ≤ length l →
       sets (sets xs i (map f (take m l))) (i + m) (map f (take w (drop m l))) ≡ sets xs i (map f (take (m + w) l))
@@ -45,4 +52,5 @@ module _ {A : Type 0} where
   stored-on f (suc m) w [] i xs h = absurd (omega arith)
   stored-on f (suc m) w (x ∷ l) i xs h =
       let q : i + suc m ≡ suc i + m = omega arith in
-      rw suc-add (ap (λ k. sets (sets (set xs i (f x)) (suc i) (map f (take m l))) k (map f (take w (drop m l)))) q ∙ stored-on f m w l (suc i) (set xs i (f x)) (omega arith))
+      rw suc-add
+      (ap (λ k. sets (sets (set xs i (f x)) (suc i) (map f (take m l))) k (map f (take w (drop m l)))) q ∙ stored-on f m w l (suc i) (set xs i (f x)) (omega arith))

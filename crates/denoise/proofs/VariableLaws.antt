@@ -5,12 +5,10 @@ use mathlib.Core.List.{List}
 use native.Mathlib.Omega.{arith}
 use Prim.Native.Nat.{ℕ, zero, suc, _+_, _-_, _<_, _≤_}
 use lib.ListN.{length, getD}
-use lib.IntN.{ℤ, pos, negℤ, _+ℤ_, _*ℤ_}
-use mir.Syntax.{w64}
-use mir.Val.{SFits, toZ, ofZ}
+use lib.IntN.{ℤ, pos, negℤ}
 use Rattle.integers.specs.Order.{_⩽_, _⋖_, abs-+, abs-neg}
 use Rattle.integers.specs.Linear.{int, 0⋖pos}
-use Rattle.integers.specs.Bounds.{Upto, Atmost, cleaning, fit, clean}
+use Rattle.integers.specs.Bounds.{Upto}
 use Rattle.optimality.specs.Series.{Limited}
 use Rattle.optimality.specs.Fractions.{fraction}
 use Rattle.optimality.specs.Machine.{State}
@@ -20,8 +18,6 @@ use Rattle.optimality.specs.TenStepsLaws.{values, floored}
 use Rattle.optimality.specs.SmallNumbers.{sample-small}
 use Rattle.optimality.specs.Tube.{ValidIncrements, plain-valid}
 use Rattle.denoise.specs.Variables.{Small, SmallMiddle, belowOf, furtherOf, lowerOf, upperOf, cutOf, dataOf, before, stateOf, variablesOf, valuesOf, Ready, Sets}
-use Rattle.denoise.specs.Forward.{NearBound}
-use Rattle.denoise.specs.declared.forward.Bound.{Bound}
 use Rattle.denoise.specs.declared.steps.Ratio.{Ratio}
 use Rattle.denoise.specs.declared.steps.Variables.{Variables}
 use Rattle.denoise.specs.declared.steps.Span.{Span}
@@ -107,27 +103,3 @@ module _ (ys : List ℤ) (smoothing : ℕ) (W : Limited ys smoothing) where
 
   pub valid : ValidIncrements (dataOf ys smoothing)
   valid = plain-valid (pos smoothing) ys (W .some) smooth
-
--- ---- numbers of a segment whose bounds are its own, read back
-module _ {n : ℕ} {t : ℤ} (h : n ≤ 65536) (u : Upto 3298534883328 t) where
-  count : Atmost 65536 n
-  count = record { atmost = h }
-
-  pub product-fits : SFits w64 (toZ w64 n *ℤ toZ w64 (ofZ w64 t))
-  product-fits = let c = count in fit (search cleaning depth 12) tt
-
-  pub product-read : toZ w64 (ofZ w64 (toZ w64 n *ℤ toZ w64 (ofZ w64 t))) ≡ pos n *ℤ t
-  product-read = let c = count in clean (search cleaning depth 12) tt
-
-pub count-read : {n : ℕ} → n ≤ 65536 → toZ w64 n ≡ pos n
-count-read {n} h = let c : Atmost 65536 n = record { atmost = h } in clean (search cleaning) tt
-
-pub total-read : {t : ℤ} → Upto 3298534883328 t → toZ w64 (ofZ w64 t) ≡ t
-total-read u = clean (search cleaning depth 12) tt
-
-module _ (b : Bound) (h : NearBound b) where
-  pub times-read : toZ w64 (ofZ w64 (b .times)) ≡ b .times
-  times-read = clean (search cleaning depth 12) tt
-
-  pub further-read : toZ w64 (ofZ w64 (toZ w64 (ofZ w64 (b .times)) +ℤ toZ w64 (ofZ w64 (b .total)))) ≡ b .times +ℤ b .total
-  further-read = clean (search cleaning depth 12) tt

@@ -235,7 +235,7 @@ module _ (ys : List ℤ) (smoothing : ℕ) (running : Bool) where
             (w ≡ doneOf (m + 1)) × ((l ≡ set lengths m (p .len)) × (t ≡ set totals m (p .total))) →
             Walks ys smoothing running from budget (length a) w × Written l t (w .segments)
         ended p S s = rw (s .0) (
-          record { fits = omega (arith, within); reached = omega (arith, length-drop m whole, ap length (sym (S .rest) ∙ K .parts)) },
+          record { few = omega (arith, few W); fits = omega (arith, within); reached = omega (arith, length-drop m whole, ap length (sym (S .rest) ∙ K .parts)) },
           written-more (K .written) (as-segment p) [] (sym (K .parts) ∙ S .rest) (s .1),
         )
 
@@ -244,6 +244,7 @@ module _ (ys : List ℤ) (smoothing : ℕ) (running : Bool) where
             Walks ys smoothing running from budget (length a) w × Written lengths totals (w .segments)
         waited e l s = rw s (
           record {
+            few = omega (arith, few W);
             fits = omega (arith, within);
             reached = omega (arith, K .there, length-drop m whole, ap length (sym (waits W (K .good) e l) ∙ K .parts));
           },
@@ -255,6 +256,7 @@ module _ (ys : List ℤ) (smoothing : ℕ) (running : Bool) where
             Walks ys smoothing running from budget (length a) w × Written lengths totals (w .segments)
         stands C f k o s = rw s (
           record {
+            few = omega (arith, few W);
             fits = omega (arith, within);
             reached = record { spent = omega (arith, C .most); good = K .good; before = k; one = o; further = K .ahead; rest = K .parts };
           },

@@ -1,31 +1,25 @@
 -- What a walk from step 1 leaves in lists with an entry for each minute: the first segments of the line, all of them where it comes to the end.
-use mathlib.Core.Path.{_≡_, sym, _∙_, ap}
+use mathlib.Core.Path.{_≡_, _∙_, ap}
 use mathlib.Core.Bool.{Bool, true, false}
 use mathlib.Core.List.{List, [], _∷_, map}
 use native.Mathlib.Omega.{arith}
-use Prim.Native.Nat.{ℕ, zero, suc, _-_, _<_, _≤_}
-use lib.ListN.{length, take, drop, getD, length-map}
+use Prim.Native.Nat.{ℕ, zero, suc, _<_, _≤_}
+use lib.ListN.{length, take, length-map}
 use lib.Seq.{sets}
-use lib.IntN.{ℤ, pos, _-ℤ_}
-use Rattle.integers.specs.Bounds.{Upto}
+use lib.IntN.{ℤ, pos}
 use Rattle.optimality.specs.Series.{Limited}
 use Rattle.optimality.specs.Segments.{Segment}
 use Rattle.optimality.specs.Machine.{begin}
 use Rattle.optimality.specs.Finalized.{plain-segments}
 use Rattle.optimality.specs.FinalizedLaws.{finalized-few}
-use Rattle.optimality.specs.SmallNumbers.{sample-small}
 use Rattle.optimality.specs.Correctness.{plain-few}
-use Rattle.optimality.specs.Remainder.{plain-remainder}
 use Rattle.series.specs.Answer.{refill}
 use Rattle.series.proofs.AnswerLaws.{sets-refill}
-use Rattle.denoise.specs.Variables.{dataOf, variablesOf, before}
-use Rattle.denoise.specs.Walk.{rest, Starts, Pauses, Reached, Walks, Fits}
-use Rattle.denoise.specs.Attempt.{LeavesOff}
+use Rattle.denoise.specs.Variables.{dataOf, variablesOf}
+use Rattle.denoise.specs.Walk.{rest, Starts, Walks, Fits}
 use Rattle.denoise.specs.declared.steps.Variables.{Variables}
-use Rattle.denoise.specs.declared.walk.Next.{Next}
-use Rattle.denoise.specs.declared.walk.Next.the-variants as Next
 use Rattle.denoise.specs.declared.walk.Walked.{Walked}
-use Rattle.denoise.proofs.VariableLaws.{suc-before, smooth}
+use Rattle.denoise.proofs.VariableLaws.{smooth}
 use Rattle.denoise.proofs.WalkLoop.{starts}
 
 short-take : {A : Type 0} (m : ℕ) (l : List A) → length (take m l) ≤ length l
@@ -66,35 +60,4 @@ module _ (ys : List ℤ) (smoothing : ℕ) (running : Bool) (W : Limited ys smoo
 
     -- there are no more of them than minutes
     pub few-written : {budget room : ℕ} (w : Walked) → Walks ys smoothing running from budget room w → w .segments ≤ 65536
-    few-written {budget} w H = go (w .next) (H .reached)
-      where
-        go : (n : Next) → Reached ys smoothing running from budget (w .segments) n → w .segments ≤ 65536
-        go Next.Done r = omega (arith, r, ap length all-there, few, W .few)
-        go (Next.At q) P = omega (arith, P .before, P .one, P .further, W .few)
-
--- where the budget is spent
-module _ (ys : List ℤ) (smoothing : ℕ) (W : Limited ys smoothing) {from : Variables} (e : from ≡ variablesOf (begin (dataOf ys smoothing) 0 (pos 0)))
-    {budget m : ℕ} {q : Variables} (P : Pauses ys smoothing false from budget m q) where
-  at : q .k0 - 1 ≡ before (q .k0)
-  at = omega (arith, suc-before (q .k0) (P .good .first))
-
-  pub inside : q .k0 - 1 < length ys
-  inside = omega (arith, P .before, P .one, P .good .first)
-
-  pub small-sum : Upto 2199023255552 (q .mean .total)
-  small-sum = record { upto = omega (arith, P .good .small .sum, P .one, W .smooth, suc-before (q .k0) (P .good .first)) }
-
-  pub small-sample : Upto 16777216 (getD ys (q .k0 - 1) (pos 0))
-  small-sample = sample-small 16777216 ys (W .samples) (q .k0 - 1) inside
-
-  pub leaves-off : LeavesOff ys smoothing budget m (q .k0 - 1) (q .mean .total -ℤ getD ys (q .k0 - 1) (pos 0))
-  leaves-off = rw at record {
-    spent = P .spent;
-    few = omega (arith, P .further, ap (λ q. q .k0) e, suc-before (q .k0) (P .good .first));
-    before = rw at at inside;
-    dual = record { upto = P .good .small .start one };
-    rest = ap (drop m) (sym (all-there ys smoothing false W e)) ∙ sym (P .rest) ∙ plain-remainder (pos smoothing) ys (W .some) (smooth ys smoothing W) (P .good .sound) one;
-  }
-    where
-      one : q .k ≡ suc (before (q .k0))
-      one = P .one ∙ sym (suc-before (q .k0) (P .good .first))
+    few-written w H = omega (arith, H .few, ap (λ r. r .k0) e, W .few)

@@ -85,8 +85,9 @@ module _ (ys : List ℤ) (smoothing : ℕ) where
     Reached from budget m Next.Done = m ≡ length (rest from)
     Reached from budget m (Next.At q) = Pauses from budget m q
 
-    -- a walk over lists of `room` entries
+    -- a walk over lists of `room` entries, with no more segments than there are minutes
     pub record Walks (from : Variables) (budget room : ℕ) (w : Walked) : Type 0 where
+      pub few : from .k0 + w .segments ≤ length ys + 1
       pub fits : w .segments ≤ room
       pub reached : Reached from budget (w .segments) (w .next)
 

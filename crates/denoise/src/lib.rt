@@ -11,10 +11,9 @@ ghost use Rattle.denoise.specs.Dual.{balancesOf, balancesAfter};
 use series::Checked;
 use series::Filled;
 
-mod forward;
 pub mod inner;
 pub mod steps;
-mod tracing;
+pub mod tracing;
 pub mod walk;
 
 pub enum Drawn {

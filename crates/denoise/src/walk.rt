@@ -1,6 +1,7 @@
 // The way from step to step, for the line and for the dual: the parts of x are written as segments.
 
 ghost use mathlib.Core.Path.{_≡_};
+ghost use mathlib.Core.Bool.{false};
 ghost use Prim.Native.Nat.{suc, _+_, _-_, _≤_, _<_};
 ghost use lib.ListN.{length, set, take};
 ghost use lib.Seq.{sets};
@@ -149,6 +150,38 @@ pub(crate) fn walk(
     }
 }
 
+// The same where the first m entries are taken.
+pub(crate) fn behind(
+    samples: &[i32],
+    smoothing: u64,
+    from: Variables,
+    budget: usize,
+    m: usize,
+    lengths: &mut [u32],
+    totals: &mut [i64],
+) -> Walked
+    requires { ⌜ Limited (now samples) smoothing ⌝ }
+    requires { ⌜ Starts (now samples) smoothing from ⌝ }
+    requires { ⌜ m < from .k0 ⌝ }
+    requires { ⌜ length (now samples) ≤ length (now lengths) ⌝ }
+    requires { ⌜ length (now samples) ≤ length (now totals) ⌝ }
+    ensures { λ w. ⌜ Walks (now (samples .entry)) smoothing false from budget (length (now (lengths .entry)) - m) w ⌝ }
+    ensures { λ w. ⌜ now (lengths .exit) ≡ sets (now (lengths .entry)) m
+        (line-lengths (take (w .segments) (rest (now (samples .entry)) smoothing false from))) ⌝ }
+    ensures { λ w. ⌜ now (totals .exit) ≡ sets (now (totals .entry)) m
+        (line-totals (take (w .segments) (rest (now (samples .entry)) smoothing false from))) ⌝ }
+{
+    walk(
+        samples,
+        smoothing,
+        false,
+        from,
+        budget,
+        &mut lengths[m..],
+        &mut totals[m..],
+    )
+}
+
 // The minutes from k0 to k.
 fn looked_at(r: Variables) -> usize
     requires { ⌜ r .k0 ≤ r .k ⌝ }
@@ -174,7 +207,7 @@ pub(crate) fn write(x: Span, m: usize, lengths: &mut [u32], totals: &mut [i64]) 
 }
 
 // The last part of x, and the end of the walk.
-pub(crate) fn last(x: Span, m: usize, lengths: &mut [u32], totals: &mut [i64]) -> Walked
+fn last(x: Span, m: usize, lengths: &mut [u32], totals: &mut [i64]) -> Walked
     requires { ⌜ x .len ≤ 65536 ⌝ }
     requires { ⌜ m < length (now lengths) ⌝ }
     requires { ⌜ m < length (now totals) ⌝ }
@@ -186,7 +219,7 @@ pub(crate) fn last(x: Span, m: usize, lengths: &mut [u32], totals: &mut [i64]) -
 }
 
 // The end of the walk.
-fn done(segments: usize) -> Walked
+pub(crate) fn done(segments: usize) -> Walked
     ensures { λ w. ⌜ w ≡ doneOf segments ⌝ }
 {
     let next = Next::Done;
@@ -194,7 +227,7 @@ fn done(segments: usize) -> Walked
 }
 
 // The walk after some segments, with more to come.
-pub(crate) fn paused(segments: usize, r: Variables) -> Walked
+fn paused(segments: usize, r: Variables) -> Walked
     ensures { λ w. ⌜ w ≡ pausedOf segments r ⌝ }
 {
     let next = Next::At(r);

@@ -18,9 +18,9 @@ use Rattle.optimality.specs.Tube.{plain-valid}
 use Rattle.optimality.specs.Correctness.{line-correct, plain-few}
 use Rattle.series.specs.Answer.{refill}
 use Rattle.series.proofs.AnswerLaws.{length-refill}
-use Rattle.denoise.specs.Attempt.{segmentsOf, LeavesOff, Attempts}
-use Rattle.denoise.specs.declared.inner.Tried.{Tried}
-use Rattle.denoise.specs.declared.inner.Tried.the-variants as Tried
+use Rattle.sweep.specs.Attempt.{segmentsOf, LeavesOff, Attempts}
+use Rattle.sweep.specs.declared.inner.Tried.{Tried}
+use Rattle.sweep.specs.declared.inner.Tried.the-variants as Tried
 use Rattle.taut.specs.Input.{minutesOf, frame, Ok}
 use Rattle.taut.proofs.PlainLaws.{minutes-plain, plain-ok}
 

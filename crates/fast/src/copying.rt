@@ -8,14 +8,14 @@ ghost use Rattle.optimality.specs.Series.{Limited};
 ghost use Rattle.optimality.specs.Machine.{plain-line};
 ghost use Rattle.optimality.specs.PlainSeries.{line-lengths, line-totals};
 ghost use Rattle.series.specs.Answer.{refill};
-ghost use Rattle.denoise.specs.Attempt.{LeavesOff};
+ghost use Rattle.sweep.specs.Attempt.{LeavesOff};
 use super::inner::PASSES;
 use super::string;
-use denoise::inner::Tried;
-use denoise::inner::attempt;
 use series::DAY;
 use series::MINUTES;
 use series::inner::copy_segments;
+use sweep::inner::Tried;
+use sweep::inner::attempt;
 
 // The line where nothing is refused.
 pub(crate) fn draw(samples: &[i32], smoothing: u64, lengths: &mut [u32], totals: &mut [i64]) -> u32

@@ -8,8 +8,8 @@ ghost use Rattle.optimality.specs.Series.{Limited};
 ghost use Rattle.optimality.specs.Machine.{plain-line};
 ghost use Rattle.optimality.specs.PlainSeries.{line-lengths, line-totals};
 use super::string;
-use denoise::inner::Tried;
-use denoise::inner::attempt;
+use sweep::inner::Tried;
+use sweep::inner::attempt;
 
 // So many times may the ten steps look at each minute, on average, before the taut string goes on from where they are.
 pub(crate) const PASSES: usize = 3;

@@ -7,7 +7,7 @@ ghost use lib.IntN.{pos};
 ghost use Rattle.optimality.specs.Series.{Limited};
 ghost use Rattle.optimality.specs.Machine.{plain-line};
 ghost use Rattle.optimality.specs.PlainSeries.{line-lengths, line-totals};
-ghost use Rattle.denoise.specs.Attempt.{LeavesOff};
+ghost use Rattle.sweep.specs.Attempt.{LeavesOff};
 
 // The line, of which the first m segments are there: those of the first i minutes, after which the dual is u. Later entries may then hold anything.
 pub(crate) fn finish(

@@ -21,7 +21,8 @@ step-1-requires c κs = c .before .pre .0
 walk-requires : tie.Need-walk-requires
 walk-requires c κs =
     let s = c .before .before .before .before in
-    (s .pre .0, (starts-there _ _ (s .args .running) (s .pre .0) (c .before .before .step-1 .ensures .0), each-fits (starts-there _ _ (s .args .running) (s .pre .0) (c .before .before .step-1 .ensures .0) .good .first) (s .pre .1 .0) (s .pre .1 .1)))
+    let S = starts-there _ _ (s .args .running) (s .pre .0) (c .before .before .step-1 .ensures .0) in
+    (s .pre .0, (S, each-fits (S .good .first) (s .pre .1 .0) (s .pre .1 .1)))
 
 module _ (c : tie.After-walk) where
   abbrev from : tie.Start
