@@ -7,8 +7,8 @@
  * No call allocates or keeps anything for later, so calls are reentrant and thread-safe: any number of them may run at once, on the same inputs too, as
  * long as nothing else uses an area that a call writes, or writes one that it reads, until that call returns.
  *
- * Stack: dawhikura_sheet_read and dawhikura_sheet_complete need 1 MiB and 16 KiB for lists of their own, dawhikura_series_line_fast 768 KiB and 16 KiB, however
- * short the sheet or the series; every other call needs 16 KiB.
+ * Stack: dawhikura_sheet_read and dawhikura_sheet_complete have lists of their own; they need 40 KiB for a sheet of up to 1,440 minutes, and 1 MiB and 40 KiB
+ * for a longer one. dawhikura_series_line_fast needs 768 KiB and 16 KiB, however short the series, every other call 16 KiB.
  *
  * Time: dawhikura_sheet_complete and dawhikura_series_line_fast are linear on every input, as reading, writing, checking, charts and building a summary are:
  * some 7 ns a minute of noise, and up to 22 on the worst series found (README, "Speed"); reading and writing CSV, linear too, take some 22 ns a minute.

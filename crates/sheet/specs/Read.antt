@@ -1,4 +1,5 @@
 -- Reading: refusals 10, 1, 2, 11, 12, 4, 3, then where a line is filed the check's 6 to 9, then 5 (RULES 6.3).
+use mathlib.Core.Path.{_≡_}
 use mathlib.Core.Bool.{Bool, true, false, _||_, _&&_}
 use mathlib.Core.List.{List}
 use Prim.Native.Nat.{ℕ}
@@ -11,8 +12,9 @@ use Rattle.series.specs.Answer.{refill, on-success}
 use Rattle.checker.specs.Check.{meets-conditions}
 use Rattle.layout.specs.Format.{smoothing, samples, lengths, totals}
 use Rattle.layout.specs.Head.{well-headed}
-use Rattle.layout.specs.Answer.{fields}
+use Rattle.layout.specs.Answer.{fields, headed}
 use Rattle.layout.specs.declared.Fields.{Fields}
+use Rattle.layout.specs.declared.Reading.{Reading}
 
 -- two empty line lists mean that no line is filed; else 6 to 9 are tested; then the rest
 abbrev pub unless : {A : Type 0} → Bool → Answer A → Answer A → Answer A
@@ -43,3 +45,7 @@ module _ (s : List ℕ) (ys : List ℤ) (ns : List ℕ) (ts : List ℤ) where
 
   abbrev pub totalsAfter : List ℤ
   totalsAfter = on-success readOf (refill (totals s) ts) ts
+
+  -- what a call gives: its answer, and the three lists then
+  abbrev pub Reads : Reading → List ℤ → List ℕ → List ℤ → Type 0
+  Reads r ys′ ns′ ts′ = (headed r ≡ readOf) × ((ys′ ≡ samplesAfter) × ((ns′ ≡ lengthsAfter) × (ts′ ≡ totalsAfter)))

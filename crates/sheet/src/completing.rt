@@ -28,17 +28,36 @@ pub(crate) fn complete_small(sheet: &[u8], f: Fields, out: &mut [u8]) -> Written
     requires { ⌜ InOrder (now sheet) ⌝ }
     requires { ⌜ f ≡ fields (now sheet) ⌝ }
     requires { ⌜ f .minutes ≤ 1440 ⌝ }
+    requires { ⌜ f .segments ≤ 1440 ⌝ }
     ensures { λ r. ⌜ written r ≡ completeOf (now (sheet .entry)) (now (out .entry)) ⌝ }
     ensures { λ r. ⌜ now (out .exit) ≡ completedAfter (now (sheet .entry)) (now (out .entry)) ⌝ }
 {
-    let mut ys = [0i32; DAY];
-    let mut ns = [0u32; DAY];
-    let mut ts = [0i64; DAY];
-    complete_lists(sheet, f, out, &mut ys, &mut ns, &mut ts)
+    let mut y = [0i32; DAY];
+    let mut n = [0u32; DAY];
+    let mut t = [0i64; DAY];
+    complete_lists(sheet, f, out, &mut y, &mut n, &mut t)
 }
 
-// Of a longer one, with a line of no more segments than a day has minutes.
-pub(crate) fn complete_few(sheet: &[u8], f: Fields, out: &mut [u8]) -> Written
+// Of any other, in lists as long as it needs, in steps: zeroing takes time too.
+pub(crate) fn complete_long(sheet: &[u8], f: Fields, out: &mut [u8]) -> Written
+    requires { ⌜ InOrder (now sheet) ⌝ }
+    requires { ⌜ f ≡ fields (now sheet) ⌝ }
+    ensures { λ r. ⌜ written r ≡ completeOf (now (sheet .entry)) (now (out .entry)) ⌝ }
+    ensures { λ r. ⌜ now (out .exit) ≡ completedAfter (now (sheet .entry)) (now (out .entry)) ⌝ }
+{
+    if f.segments > 0 {
+        if f.segments <= DAY as u32 {
+            return complete_few(sheet, f, out);
+        }
+    }
+    if f.minutes <= MONTH as u32 {
+        return complete_month(sheet, f, out);
+    }
+    complete_large(sheet, f, out)
+}
+
+// With a line of no more segments than a day has minutes.
+fn complete_few(sheet: &[u8], f: Fields, out: &mut [u8]) -> Written
     requires { ⌜ InOrder (now sheet) ⌝ }
     requires { ⌜ f ≡ fields (now sheet) ⌝ }
     requires { ⌜ 0 < f .segments ⌝ }
@@ -46,37 +65,37 @@ pub(crate) fn complete_few(sheet: &[u8], f: Fields, out: &mut [u8]) -> Written
     ensures { λ r. ⌜ written r ≡ completeOf (now (sheet .entry)) (now (out .entry)) ⌝ }
     ensures { λ r. ⌜ now (out .exit) ≡ completedAfter (now (sheet .entry)) (now (out .entry)) ⌝ }
 {
-    let mut ys = [0i32; MINUTES];
-    let mut ns = [0u32; DAY];
-    let mut ts = [0i64; DAY];
-    complete_lists(sheet, f, out, &mut ys, &mut ns, &mut ts)
+    let mut y = [0i32; MINUTES];
+    let mut n = [0u32; DAY];
+    let mut t = [0i64; DAY];
+    complete_lists(sheet, f, out, &mut y, &mut n, &mut t)
 }
 
-// Of one of up to a month.
-pub(crate) fn complete_month(sheet: &[u8], f: Fields, out: &mut [u8]) -> Written
+// Of up to a month.
+fn complete_month(sheet: &[u8], f: Fields, out: &mut [u8]) -> Written
     requires { ⌜ InOrder (now sheet) ⌝ }
     requires { ⌜ f ≡ fields (now sheet) ⌝ }
     requires { ⌜ f .minutes ≤ 44640 ⌝ }
     ensures { λ r. ⌜ written r ≡ completeOf (now (sheet .entry)) (now (out .entry)) ⌝ }
     ensures { λ r. ⌜ now (out .exit) ≡ completedAfter (now (sheet .entry)) (now (out .entry)) ⌝ }
 {
-    let mut ys = [0i32; MONTH];
-    let mut ns = [0u32; MONTH];
-    let mut ts = [0i64; MONTH];
-    complete_lists(sheet, f, out, &mut ys, &mut ns, &mut ts)
+    let mut y = [0i32; MONTH];
+    let mut n = [0u32; MONTH];
+    let mut t = [0i64; MONTH];
+    complete_lists(sheet, f, out, &mut y, &mut n, &mut t)
 }
 
-// Of any other.
-pub(crate) fn complete_large(sheet: &[u8], f: Fields, out: &mut [u8]) -> Written
+// Of any length.
+fn complete_large(sheet: &[u8], f: Fields, out: &mut [u8]) -> Written
     requires { ⌜ InOrder (now sheet) ⌝ }
     requires { ⌜ f ≡ fields (now sheet) ⌝ }
     ensures { λ r. ⌜ written r ≡ completeOf (now (sheet .entry)) (now (out .entry)) ⌝ }
     ensures { λ r. ⌜ now (out .exit) ≡ completedAfter (now (sheet .entry)) (now (out .entry)) ⌝ }
 {
-    let mut ys = [0i32; MINUTES];
-    let mut ns = [0u32; MINUTES];
-    let mut ts = [0i64; MINUTES];
-    complete_lists(sheet, f, out, &mut ys, &mut ns, &mut ts)
+    let mut y = [0i32; MINUTES];
+    let mut n = [0u32; MINUTES];
+    let mut t = [0i64; MINUTES];
+    complete_lists(sheet, f, out, &mut y, &mut n, &mut t)
 }
 
 // With lists to work in. The two of the segments have room for those that are filed, or for as many as there are minutes where none are.

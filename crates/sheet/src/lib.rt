@@ -14,7 +14,6 @@ use layout::Reading;
 use layout::header;
 use series::Checked;
 use series::DAY;
-use series::MONTH;
 
 mod checking;
 mod completing;
@@ -40,13 +39,14 @@ pub fn read(sheet: &[u8], samples: &mut [i32], lengths: &mut [u32], totals: &mut
     match header::read_header(sheet) {
         Reading::Refused(number, place) => Reading::Refused(number, place),
         Reading::Valid(f) => {
-            if f.minutes <= DAY as u32 {
-                return reader::read_small(sheet, f, samples, lengths, totals);
+            // What is called from two places stays a function of its own, so that a small sheet needs no stack for a long one's lists.
+            if f.minutes > DAY as u32 {
+                return reader::read_long(sheet, f, samples, lengths, totals);
             }
-            if f.segments <= DAY as u32 {
-                return reader::read_few(sheet, f, samples, lengths, totals);
+            if f.segments > DAY as u32 {
+                return reader::read_long(sheet, f, samples, lengths, totals);
             }
-            reader::read_large(sheet, f, samples, lengths, totals)
+            reader::read_small(sheet, f, samples, lengths, totals)
         }
     }
 }
@@ -86,18 +86,14 @@ pub fn complete(sheet: &[u8], out: &mut [u8]) -> Written
     match header::read_header(sheet) {
         Reading::Refused(number, place) => Written::Refused(number, place),
         Reading::Valid(f) => {
-            if f.minutes <= DAY as u32 {
-                return completing::complete_small(sheet, f, out);
+            // As in `read`.
+            if f.minutes > DAY as u32 {
+                return completing::complete_long(sheet, f, out);
             }
-            if f.segments > 0 {
-                if f.segments <= DAY as u32 {
-                    return completing::complete_few(sheet, f, out);
-                }
+            if f.segments > DAY as u32 {
+                return completing::complete_long(sheet, f, out);
             }
-            if f.minutes <= MONTH as u32 {
-                return completing::complete_month(sheet, f, out);
-            }
-            completing::complete_large(sheet, f, out)
+            completing::complete_small(sheet, f, out)
         }
     }
 }

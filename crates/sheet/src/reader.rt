@@ -6,7 +6,7 @@ ghost use Rattle.series.specs.Limits.{in-limits};
 ghost use Rattle.series.specs.Answer.{refill, on-success};
 ghost use Rattle.layout.specs.Answer.{fields, headed};
 ghost use Rattle.layout.specs.HeadLaws.{InOrder};
-ghost use Rattle.sheet.specs.Read.{filed, with-room, readOf, samplesAfter, lengthsAfter, totalsAfter};
+ghost use Rattle.sheet.specs.Read.{filed, with-room, Reads};
 use super::checking;
 use layout::Fields;
 use layout::Reading;
@@ -14,6 +14,7 @@ use layout::inner::decode;
 use series::Checked;
 use series::DAY;
 use series::MINUTES;
+use series::MONTH;
 use series::inner::copy_samples;
 use series::inner::copy_segments;
 
@@ -28,28 +29,40 @@ pub(crate) fn read_small(
     requires { ⌜ InOrder (now sheet) ⌝ }
     requires { ⌜ f ≡ fields (now sheet) ⌝ }
     requires { ⌜ f .minutes ≤ 1440 ⌝ }
-    ensures { λ r. ⌜ headed r ≡ readOf (now (sheet .entry)) (now (samples .entry)) (now (lengths .entry)) (now (totals .entry)) ⌝ }
-    ensures { λ r. ⌜ now (samples .exit) ≡ samplesAfter (now (sheet .entry)) (now (samples .entry)) (now (lengths .entry)) (now (totals .entry)) ⌝ }
-    ensures { λ r. ⌜ now (lengths .exit) ≡ lengthsAfter (now (sheet .entry)) (now (samples .entry)) (now (lengths .entry)) (now (totals .entry)) ⌝ }
-    ensures { λ r. ⌜ now (totals .exit) ≡ totalsAfter (now (sheet .entry)) (now (samples .entry)) (now (lengths .entry)) (now (totals .entry)) ⌝ }
+    requires { ⌜ f .segments ≤ 1440 ⌝ }
+    ensures { λ r. ⌜ Reads (now (sheet .entry)) (now (samples .entry)) (now (lengths .entry)) (now (totals .entry))
+        r (now (samples .exit)) (now (lengths .exit)) (now (totals .exit)) ⌝ }
 {
-    let mut ys = [0i32; DAY];
-    let mut ns = [0u32; DAY];
-    let mut ts = [0i64; DAY];
-    read_lists(
-        sheet,
-        f,
-        samples,
-        lengths,
-        totals,
-        &mut ys,
-        &mut ns,
-        &mut ts,
-    )
+    let mut y = [0i32; DAY];
+    let mut n = [0u32; DAY];
+    let mut t = [0i64; DAY];
+    read_lists(sheet, f, samples, lengths, totals, &mut y, &mut n, &mut t)
 }
 
-// Of a longer one with no more segments than a day has minutes.
-pub(crate) fn read_few(
+// Of any other, in lists as long as it needs, in steps: zeroing takes time too.
+pub(crate) fn read_long(
+    sheet: &[u8],
+    f: Fields,
+    samples: &mut [i32],
+    lengths: &mut [u32],
+    totals: &mut [i64],
+) -> Reading
+    requires { ⌜ InOrder (now sheet) ⌝ }
+    requires { ⌜ f ≡ fields (now sheet) ⌝ }
+    ensures { λ r. ⌜ Reads (now (sheet .entry)) (now (samples .entry)) (now (lengths .entry)) (now (totals .entry))
+        r (now (samples .exit)) (now (lengths .exit)) (now (totals .exit)) ⌝ }
+{
+    if f.segments <= DAY as u32 {
+        return read_few(sheet, f, samples, lengths, totals);
+    }
+    if f.minutes <= MONTH as u32 {
+        return read_month(sheet, f, samples, lengths, totals);
+    }
+    read_large(sheet, f, samples, lengths, totals)
+}
+
+// With no more segments than a day has minutes.
+fn read_few(
     sheet: &[u8],
     f: Fields,
     samples: &mut [i32],
@@ -59,28 +72,17 @@ pub(crate) fn read_few(
     requires { ⌜ InOrder (now sheet) ⌝ }
     requires { ⌜ f ≡ fields (now sheet) ⌝ }
     requires { ⌜ f .segments ≤ 1440 ⌝ }
-    ensures { λ r. ⌜ headed r ≡ readOf (now (sheet .entry)) (now (samples .entry)) (now (lengths .entry)) (now (totals .entry)) ⌝ }
-    ensures { λ r. ⌜ now (samples .exit) ≡ samplesAfter (now (sheet .entry)) (now (samples .entry)) (now (lengths .entry)) (now (totals .entry)) ⌝ }
-    ensures { λ r. ⌜ now (lengths .exit) ≡ lengthsAfter (now (sheet .entry)) (now (samples .entry)) (now (lengths .entry)) (now (totals .entry)) ⌝ }
-    ensures { λ r. ⌜ now (totals .exit) ≡ totalsAfter (now (sheet .entry)) (now (samples .entry)) (now (lengths .entry)) (now (totals .entry)) ⌝ }
+    ensures { λ r. ⌜ Reads (now (sheet .entry)) (now (samples .entry)) (now (lengths .entry)) (now (totals .entry))
+        r (now (samples .exit)) (now (lengths .exit)) (now (totals .exit)) ⌝ }
 {
-    let mut ys = [0i32; MINUTES];
-    let mut ns = [0u32; DAY];
-    let mut ts = [0i64; DAY];
-    read_lists(
-        sheet,
-        f,
-        samples,
-        lengths,
-        totals,
-        &mut ys,
-        &mut ns,
-        &mut ts,
-    )
+    let mut y = [0i32; MINUTES];
+    let mut n = [0u32; DAY];
+    let mut t = [0i64; DAY];
+    read_lists(sheet, f, samples, lengths, totals, &mut y, &mut n, &mut t)
 }
 
-// Of any other.
-pub(crate) fn read_large(
+// Of up to a month.
+fn read_month(
     sheet: &[u8],
     f: Fields,
     samples: &mut [i32],
@@ -89,24 +91,33 @@ pub(crate) fn read_large(
 ) -> Reading
     requires { ⌜ InOrder (now sheet) ⌝ }
     requires { ⌜ f ≡ fields (now sheet) ⌝ }
-    ensures { λ r. ⌜ headed r ≡ readOf (now (sheet .entry)) (now (samples .entry)) (now (lengths .entry)) (now (totals .entry)) ⌝ }
-    ensures { λ r. ⌜ now (samples .exit) ≡ samplesAfter (now (sheet .entry)) (now (samples .entry)) (now (lengths .entry)) (now (totals .entry)) ⌝ }
-    ensures { λ r. ⌜ now (lengths .exit) ≡ lengthsAfter (now (sheet .entry)) (now (samples .entry)) (now (lengths .entry)) (now (totals .entry)) ⌝ }
-    ensures { λ r. ⌜ now (totals .exit) ≡ totalsAfter (now (sheet .entry)) (now (samples .entry)) (now (lengths .entry)) (now (totals .entry)) ⌝ }
+    requires { ⌜ f .minutes ≤ 44640 ⌝ }
+    ensures { λ r. ⌜ Reads (now (sheet .entry)) (now (samples .entry)) (now (lengths .entry)) (now (totals .entry))
+        r (now (samples .exit)) (now (lengths .exit)) (now (totals .exit)) ⌝ }
 {
-    let mut ys = [0i32; MINUTES];
-    let mut ns = [0u32; MINUTES];
-    let mut ts = [0i64; MINUTES];
-    read_lists(
-        sheet,
-        f,
-        samples,
-        lengths,
-        totals,
-        &mut ys,
-        &mut ns,
-        &mut ts,
-    )
+    let mut y = [0i32; MONTH];
+    let mut n = [0u32; MONTH];
+    let mut t = [0i64; MONTH];
+    read_lists(sheet, f, samples, lengths, totals, &mut y, &mut n, &mut t)
+}
+
+// Of any length.
+fn read_large(
+    sheet: &[u8],
+    f: Fields,
+    samples: &mut [i32],
+    lengths: &mut [u32],
+    totals: &mut [i64],
+) -> Reading
+    requires { ⌜ InOrder (now sheet) ⌝ }
+    requires { ⌜ f ≡ fields (now sheet) ⌝ }
+    ensures { λ r. ⌜ Reads (now (sheet .entry)) (now (samples .entry)) (now (lengths .entry)) (now (totals .entry))
+        r (now (samples .exit)) (now (lengths .exit)) (now (totals .exit)) ⌝ }
+{
+    let mut y = [0i32; MINUTES];
+    let mut n = [0u32; MINUTES];
+    let mut t = [0i64; MINUTES];
+    read_lists(sheet, f, samples, lengths, totals, &mut y, &mut n, &mut t)
 }
 
 // With lists to work in.
@@ -125,10 +136,8 @@ fn read_lists(
     requires { ⌜ f .minutes ≤ length (now ys) ⌝ }
     requires { ⌜ f .segments ≤ length (now ns) ⌝ }
     requires { ⌜ f .segments ≤ length (now ts) ⌝ }
-    ensures { λ r. ⌜ headed r ≡ readOf (now (sheet .entry)) (now (samples .entry)) (now (lengths .entry)) (now (totals .entry)) ⌝ }
-    ensures { λ r. ⌜ now (samples .exit) ≡ samplesAfter (now (sheet .entry)) (now (samples .entry)) (now (lengths .entry)) (now (totals .entry)) ⌝ }
-    ensures { λ r. ⌜ now (lengths .exit) ≡ lengthsAfter (now (sheet .entry)) (now (samples .entry)) (now (lengths .entry)) (now (totals .entry)) ⌝ }
-    ensures { λ r. ⌜ now (totals .exit) ≡ totalsAfter (now (sheet .entry)) (now (samples .entry)) (now (lengths .entry)) (now (totals .entry)) ⌝ }
+    ensures { λ r. ⌜ Reads (now (sheet .entry)) (now (samples .entry)) (now (lengths .entry)) (now (totals .entry))
+        r (now (samples .exit)) (now (lengths .exit)) (now (totals .exit)) ⌝ }
 {
     decode(sheet, f, ys, ns, ts);
     let n = f.minutes as usize;

@@ -15,10 +15,6 @@ use Rattle.sheet.proofs.complete.Tie as tie
 abbrev start : tie.After-f → tie.Start
 start v = v .before .before .before .before .before
 
--- of a sheet longer than a day
-abbrev header : tie.After-struct-known2 → tie.After-f
-header c = c .before .before .before .before
-
 -- a header in order
 told : (v : tie.After-f) → let s = start v .args .sheet .now in InOrder s × (v .f .given .0 .0 ≡ fields s)
 told v =
@@ -27,50 +23,45 @@ told v =
     let p = HeadLaws.passed s (given (fields s)) _ (sym (h .read-header .ensures) ∙ ap headed (v .f .given .1)) in
     (p .0, sym (same-given (p .1)))
 
-complete-small-requires : tie.Need-complete-small-requires
-complete-small-requires c κs = let t = told (c .before .before .before .before) in (t .0, (t .1, omega arith))
+complete-long-requires : tie.Need-complete-long-requires
+complete-long-requires c κs = told (c .before .before .before .before)
 
 returns : tie.Need-returns
 returns c =
     let d = c .before .before in
     let g = start (d .before .before .before .before .before) .args in
-    promised (g .sheet .now) (g .out .now) _ _ (d .complete-small .ensures)
+    promised (g .sheet .now) (g .out .now) _ _ (d .complete-long .ensures)
 
-complete-few-requires : tie.Need-complete-few-requires
-complete-few-requires c κs = let t = told (header (c .before .before .before .before)) in (t .0, (t .1, (omega arith, omega arith)))
+complete-long-requires-2 : tie.Need-complete-long-requires-2
+complete-long-requires-2 c κs = told (c .before .before .before .before .before .before)
 
 returns-2 : tie.Need-returns-2
 returns-2 c =
     let d = c .before .before in
-    let g = start (header (d .before .before .before .before .before)) .args in
-    promised (g .sheet .now) (g .out .now) _ _ (d .complete-few .ensures)
+    let g = start (d .before .before .before .before .before .before .before) .args in
+    promised (g .sheet .now) (g .out .now) _ _ (d .complete-long2 .ensures)
 
-complete-month-requires : tie.Need-complete-month-requires
-complete-month-requires c κs = let t = told (header (c .before .before .before .before)) in (t .0, (t .1, omega arith))
-
-returns-3 : tie.Need-returns-3
-returns-3 c =
-    let d = c .before .before in
-    let g = start (header (d .before .before .before .before .before)) .args in
-    promised (g .sheet .now) (g .out .now) _ _ (d .complete-month .ensures)
-
-complete-large-requires : tie.Need-complete-large-requires
-complete-large-requires c κs = told (header (c .before .before .before .before))
+complete-small-requires : tie.Need-complete-small-requires
+complete-small-requires c κs =
+    let e = c .before in
+    let d = e .before .before in
+    let t = told (d .before .before .before) in
+    (t .0, (t .1, (omega (arith, d .if1 .left), omega (arith, e .if2 .left))))
 
 -- 10, 1, 2, 11 or 12
-returns-4 : tie.Need-returns-4
-returns-4 c =
+returns-3 : tie.Need-returns-3
+returns-3 c =
     let n = c .before in
     let h = n .before .before in
     let g = h .before .before .before .args in
     let r = stopped (head-alike (g .sheet .now) pass) (sym (h .read-header .ensures) ∙ ap headed (n .number .given .1)) in
     promised (g .sheet .now) (g .out .now) _ _ (sym r, rw r)
 
-returns-5 : tie.Need-returns-5
-returns-5 c =
+returns-4 : tie.Need-returns-4
+returns-4 c =
     let d = c .before .before in
-    let g = start (header (d .before .before .before .before .before)) .args in
-    promised (g .sheet .now) (g .out .now) _ _ (d .complete-large .ensures)
+    let g = start (d .before .before .before .before .before .before .before) .args in
+    promised (g .sheet .now) (g .out .now) _ _ (d .complete-small .ensures)
 
 pub complete-spec : {M : Type 1} → statement M
 complete-spec =
@@ -80,18 +71,14 @@ complete-spec =
     (λ c. search needs)
     (λ c. search needs)
     (λ c. search needs)
-    complete-small-requires
+    complete-long-requires
     (λ c. search needs)
     returns
     (λ c. search needs)
-    complete-few-requires
+    complete-long-requires-2
     (λ c. search needs)
     returns-2
-    (λ c. search needs)
-    complete-month-requires
-    (λ c. search needs)
+    complete-small-requires
     returns-3
-    complete-large-requires
-    returns-4
     (λ c. search needs)
-    returns-5)
+    returns-4)

@@ -15,10 +15,6 @@ use Rattle.sheet.proofs.read.Tie as tie
 abbrev start : tie.After-f → tie.Start
 start v = v .before .before .before .before .before
 
--- of a sheet longer than a day
-abbrev header : tie.After-struct-known2 → tie.After-f
-header c = c .before .before .before .before
-
 -- a header in order
 told : (v : tie.After-f) → let s = start v .args .sheet .now in InOrder s × (v .f .given .0 .0 ≡ fields s)
 told v =
@@ -27,26 +23,30 @@ told v =
     let p = HeadLaws.passed s (given (fields s)) _ (sym (h .read-header .ensures) ∙ ap headed (v .f .given .1)) in
     (p .0, sym (same-given (p .1)))
 
-read-small-requires : tie.Need-read-small-requires
-read-small-requires c κs = let t = told (c .before .before .before .before .before .before) in (t .0, (t .1, omega arith))
+read-long-requires : tie.Need-read-long-requires
+read-long-requires c κs = told (c .before .before .before .before .before .before)
 
 returns : tie.Need-returns
 returns c =
     let d = c .before .before .before .before in
     let g = start (d .before .before .before .before .before .before .before) .args in
-    promised (g .sheet .now) (g .samples .now) (g .lengths .now) (g .totals .now) _ _ _ _ (d .read-small .ensures)
+    promised (g .sheet .now) (g .samples .now) (g .lengths .now) (g .totals .now) _ _ _ _ (d .read-long .ensures)
 
-read-few-requires : tie.Need-read-few-requires
-read-few-requires c κs = let t = told (header (c .before .before .before .before)) in (t .0, (t .1, omega arith))
+read-long-requires-2 : tie.Need-read-long-requires-2
+read-long-requires-2 c κs = told (c .before .before .before .before .before .before .before .before)
 
 returns-2 : tie.Need-returns-2
 returns-2 c =
     let d = c .before .before .before .before in
-    let g = start (header (d .before .before .before .before .before)) .args in
-    promised (g .sheet .now) (g .samples .now) (g .lengths .now) (g .totals .now) _ _ _ _ (d .read-few .ensures)
+    let g = start (d .before .before .before .before .before .before .before .before .before) .args in
+    promised (g .sheet .now) (g .samples .now) (g .lengths .now) (g .totals .now) _ _ _ _ (d .read-long2 .ensures)
 
-read-large-requires : tie.Need-read-large-requires
-read-large-requires c κs = told (header (c .before .before .before .before))
+read-small-requires : tie.Need-read-small-requires
+read-small-requires c κs =
+    let e = c .before .before .before in
+    let d = e .before .before in
+    let t = told (d .before .before .before) in
+    (t .0, (t .1, (omega (arith, d .if1 .left), omega (arith, e .if2 .left))))
 
 -- 10, 1, 2, 11 or 12
 returns-3 : tie.Need-returns-3
@@ -60,8 +60,8 @@ returns-3 c =
 returns-4 : tie.Need-returns-4
 returns-4 c =
     let d = c .before .before .before .before in
-    let g = start (header (d .before .before .before .before .before)) .args in
-    promised (g .sheet .now) (g .samples .now) (g .lengths .now) (g .totals .now) _ _ _ _ (d .read-large .ensures)
+    let g = start (d .before .before .before .before .before .before .before .before .before) .args in
+    promised (g .sheet .now) (g .samples .now) (g .lengths .now) (g .totals .now) _ _ _ _ (d .read-small .ensures)
 
 pub read-spec : {M : Type 1} → statement M
 read-spec =
@@ -71,18 +71,18 @@ read-spec =
     (λ c. search needs)
     (λ c. search needs)
     (λ c. search needs)
-    read-small-requires
+    read-long-requires
     (λ c. search needs)
     (λ c. search needs)
     (λ c. search needs)
     returns
     (λ c. search needs)
-    read-few-requires
+    read-long-requires-2
     (λ c. search needs)
     (λ c. search needs)
     (λ c. search needs)
     returns-2
-    read-large-requires
+    read-small-requires
     returns-3
     (λ c. search needs)
     (λ c. search needs)

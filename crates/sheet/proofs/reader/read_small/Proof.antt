@@ -1,16 +1,13 @@
 -- `sheet::reader::read_small` meets its contract: `read_lists` is lent arrays of 1,440 entries.
-use native.Mathlib.Omega.{arith}
 use borrow.Author.Needs.{needs}
-use Rattle.sheet.proofs.DecodedLists.{segments-fewer}
 use Rattle.sheet.proofs.reader.read_small.Statement.{statement}
 use Rattle.sheet.proofs.reader.read_small.Tie as tie
 
 read-lists-requires : tie.Need-read-lists-requires
 read-lists-requires c κs =
-    let pre = c .before .before .before .before .before .before .before .before .pre in
-    let n = pre .1 .1 in
-    let m = segments-fewer (pre .1 .0) (pre .0) in
-    (pre .0, (pre .1 .0, (n, (omega arith, omega arith))))
+    let p = c .before .before .before .before .before .before .before .before .pre in
+    let m = p .1 .1 .1 in
+    (p .0, (p .1 .0, (p .1 .1 .0, (m, m))))
 
 pub read-small-spec : {M : Type 1} → statement M
 read-small-spec =

@@ -1,0 +1,26 @@
+-- `sheet::reader::read_long` meets its contract: each function is for the sheets that its lists have room for.
+use borrow.Author.Needs.{needs}
+use Rattle.sheet.proofs.reader.read_long.Statement.{statement}
+use Rattle.sheet.proofs.reader.read_long.Tie as tie
+
+pub read-long-spec : {M : Type 1} → statement M
+read-long-spec =
+    tie.close
+    (tie.spec
+    (λ c. search needs)
+    (λ c κs. search needs)
+    (λ c. search needs)
+    (λ c. search needs)
+    (λ c. search needs)
+    (λ c. search needs)
+    (λ c. search needs)
+    (λ c κs. search needs)
+    (λ c. search needs)
+    (λ c. search needs)
+    (λ c. search needs)
+    (λ c. search needs)
+    (λ c κs. search needs)
+    (λ c. search needs)
+    (λ c. search needs)
+    (λ c. search needs)
+    (λ c. search needs))
