@@ -11,7 +11,7 @@
  * for a longer one. dawhikura_series_line_fast needs 768 KiB and 16 KiB, however short the series, every other call 16 KiB.
  *
  * Time: dawhikura_sheet_complete and dawhikura_series_line_fast are linear on every input, as reading, writing, checking, charts and building a summary are:
- * some 7 ns a minute of noise, and up to 22 on the worst series found (README, "Speed"); reading and writing CSV, linear too, take some 22 ns a minute.
+ * some 8 ns a minute of noise, and up to 27 on the worst series found (README, "Speed"); reading and writing CSV, linear too, take some 25 ns a minute.
  * dawhikura_series_line, dawhikura_series_fused_lasso, dawhikura_series_balances, dawhikura_online_fetch and dawhikura_online_close, which need no long lists of
  * their own, are as fast on noise but quadratic on some series: a ramp of 65,536 minutes takes up to seven seconds.
  *
