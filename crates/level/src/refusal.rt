@@ -1,0 +1,105 @@
+// Why a call refuses (RULES 4.3).
+
+ghost use Rattle.std.specs.Prelude.{◌≡◌};
+ghost use Rattle.level.specs.Refusal.{number, place};
+
+use std::error::Error;
+use std::fmt;
+
+// Places: minutes, segments, records and the entries of a summary are counted from 1, bytes from 0.
+#[derive(Clone, Copy, Debug, PartialEq, Eq, Hash)]
+pub enum Refusal {
+    NoMinutes,
+    TooManyMinutes,
+    SampleBeyond { minute: usize },
+    SmoothingBeyond,
+    NoRoom,
+    // of a level, or of a line as a whole, the segment is 0
+    BadLength { segment: usize },
+    // of a segment or of an entry of a summary; of a level it is 0
+    TotalBeyond { at: usize },
+    EqualLevels { segment: usize },
+    NotOptimal { minute: usize },
+    NoHeader,
+    TooManySegments,
+    BadField { byte: usize },
+    NotInLine,
+    Closed,
+    FloorBeyond,
+    BadStretch,
+    BadRecord { record: usize },
+    TooManySeries,
+}
+
+impl Refusal {
+    // Its number in the table.
+    pub fn number(self) -> u32
+        ensures { result ≡ number self }
+    {
+        match self {
+            Refusal::NoMinutes => 1,
+            Refusal::TooManyMinutes => 2,
+            Refusal::SampleBeyond { .. } => 3,
+            Refusal::SmoothingBeyond => 4,
+            Refusal::NoRoom => 5,
+            Refusal::BadLength { .. } => 6,
+            Refusal::TotalBeyond { .. } => 7,
+            Refusal::EqualLevels { .. } => 8,
+            Refusal::NotOptimal { .. } => 9,
+            Refusal::NoHeader => 10,
+            Refusal::TooManySegments => 11,
+            Refusal::BadField { .. } => 12,
+            Refusal::NotInLine => 13,
+            Refusal::Closed => 14,
+            Refusal::FloorBeyond => 15,
+            Refusal::BadStretch => 16,
+            Refusal::BadRecord { .. } => 17,
+            Refusal::TooManySeries => 24,
+        }
+    }
+
+    // Where it is, or 0 where the table names no place.
+    pub fn place(self) -> usize
+        ensures { result ≡ place self }
+    {
+        match self {
+            Refusal::SampleBeyond { minute } => minute,
+            Refusal::BadLength { segment } => segment,
+            Refusal::TotalBeyond { at } => at,
+            Refusal::EqualLevels { segment } => segment,
+            Refusal::NotOptimal { minute } => minute,
+            Refusal::TooManySegments => 4,
+            Refusal::BadField { byte } => byte,
+            Refusal::BadRecord { record } => record,
+            _ => 0,
+        }
+    }
+}
+
+impl fmt::Display for Refusal {
+    fn fmt<W: fmt::Write>(&self, f: &mut fmt::Formatter<W>) -> fmt::Result {
+        let why = match self {
+            Refusal::NoMinutes => "no minutes",
+            Refusal::TooManyMinutes => "more than 65,536 minutes",
+            Refusal::SampleBeyond { .. } => "a sample beyond its limits",
+            Refusal::SmoothingBeyond => "a smoothing above 2^40",
+            Refusal::NoRoom => "a list or the output is too short",
+            Refusal::BadLength { .. } => "lengths that make no line or level",
+            Refusal::TotalBeyond { .. } => "a total beyond its limits",
+            Refusal::EqualLevels { .. } => "neighbours of equal level",
+            Refusal::NotOptimal { .. } => "not the line of the series",
+            Refusal::NoHeader => "a sheet of under 32 bytes",
+            Refusal::TooManySegments => "more segments than minutes",
+            Refusal::BadField { .. } => "a field of the header is wrong",
+            Refusal::NotInLine => "no such minute or segment",
+            Refusal::Closed => "the series is closed",
+            Refusal::FloorBeyond => "a floor above 16,777,216",
+            Refusal::BadStretch => "no such stretch of minutes",
+            Refusal::BadRecord { .. } => "a record that is not its minute's",
+            Refusal::TooManySeries => "too many series to count",
+        };
+        write!(f, "{} at {}: {why}", self.number(), self.place())
+    }
+}
+
+impl Error for Refusal {}
