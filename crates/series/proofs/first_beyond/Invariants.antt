@@ -1,5 +1,5 @@
 -- `series::first_beyond`: what is found from minute k on is what is found from `at` on.
-use Rattle.std.proofs.Common.{◌≡◌, suc, drop, ◌≤◌}
+use Rattle.std.proofs.Common.{◌≡◌, suc, drop}
 use Rattle.series.specs.Search.{first_from}
 use Rattle.series.specs.Limits.{bad_sample}
 use Rattle.series.proofs.first_beyond.Given as goal
