@@ -1,5 +1,6 @@
 -- The number and the place of each refusal (RULES 4.3).
-use Rattle.std.specs.Prelude.{ℕ}
+use Rattle.std.specs.Prelude.{ℕ, List, ◌∷◌, ◌++◌}
+use Rattle.std.specs.Fmt.{decimal}
 use Rattle.level.specs.declared.refusal.Refusal.{Refusal}
 
 abbrev pub number : Refusal → ℕ
@@ -33,3 +34,7 @@ place Refusal.TooManySegments = 4
 place (Refusal.BadField byte) = byte
 place (Refusal.BadRecord entry) = entry
 place r = 0
+
+-- "refused ", the number, a space and the place
+abbrev pub refusal_text : Refusal → List ℕ
+refusal_text r = 114 ∷ 101 ∷ 102 ∷ 117 ∷ 115 ∷ 101 ∷ 100 ∷ 32 ∷ (decimal (number r) ++ 32 ∷ decimal (place r))

@@ -1,7 +1,7 @@
 // Why a call refuses (RULES 4.3).
 
-ghost use Rattle.std.specs.Prelude.{◌≡◌};
-ghost use Rattle.level.specs.Refusal.{number, place};
+ghost use Rattle.std.specs.Prelude.{◌≡◌, Some};
+ghost use Rattle.level.specs.Refusal.{number, place, refusal_text};
 
 use std::error::Error;
 use std::fmt;
@@ -76,29 +76,14 @@ impl Refusal {
     }
 }
 
+// As the programs print it: `refused`, number and place.
 impl fmt::Display for Refusal {
+    ghost output = { λ r. Some (refusal_text r) };
+
     fn fmt<W: fmt::Write>(&self, f: &mut fmt::Formatter<W>) -> fmt::Result {
-        let why = match self {
-            Refusal::NoMinutes => "no minutes",
-            Refusal::TooManyMinutes => "more than 65,536 minutes",
-            Refusal::SampleBeyond { .. } => "a sample beyond its limits",
-            Refusal::SmoothingBeyond => "a smoothing above 2^40",
-            Refusal::NoRoom => "a list or the output is too short",
-            Refusal::BadLength { .. } => "lengths that make no line or level",
-            Refusal::TotalBeyond { .. } => "a total beyond its limits",
-            Refusal::EqualLevels { .. } => "neighbours of equal level",
-            Refusal::NotOptimal { .. } => "not the line of the series",
-            Refusal::NoHeader => "a sheet of under 32 bytes",
-            Refusal::TooManySegments => "more segments than minutes",
-            Refusal::BadField { .. } => "a field of the header is wrong",
-            Refusal::NotInLine => "no such minute or segment",
-            Refusal::Closed => "the series is closed",
-            Refusal::FloorBeyond => "a floor above 16,777,216",
-            Refusal::BadStretch => "no such stretch of minutes",
-            Refusal::BadRecord { .. } => "a record that is not its minute's",
-            Refusal::TooManySeries => "too many series to count",
-        };
-        write!(f, "{} at {}: {why}", self.number(), self.place())
+        let number = self.number();
+        let place = self.place();
+        write!(f, "refused {number} {place}")
     }
 }
 
