@@ -30,17 +30,17 @@ pub returns-in-End-clause-answer : goal.returns-in-End-clause-answer
 returns-in-End-clause-answer c =
     let S = finished-end _ _ false c.args.series.limited c.requires.from_good refl c.in-End.x c.in-End.ensures in
     let k = looked _ _ false c.args.series.limited c.requires.from_good in
-    record { few = omega (arith, k, c.requires.at_end); fits = omega (arith, k, c.requires.few_taken, c.requires.at_end, c.requires.lengths_room); reached = sym (ap length S.rest) }
+    rw c.done.ensures record { few = omega (arith, k, c.requires.at_end); fits = omega (arith, k, c.requires.few_taken, c.requires.at_end, c.requires.lengths_room); reached = sym (ap length S.rest) }
 
 pub returns-in-End-clause-lengths : goal.returns-in-End-clause-lengths
 returns-in-End-clause-lengths c =
     let S = finished-end _ _ false c.args.series.limited c.requires.from_good refl c.in-End.x c.in-End.ensures in
-    c.write.ensures.lengths ∙ ap (λ l. sets c.args.lengths.now c.args.m (line_lengths (take 1 l))) (sym S.rest)
+    rw c.done.ensures (c.write.ensures.lengths ∙ ap (λ l. sets c.args.lengths.now c.args.m (line_lengths (take 1 l))) (sym S.rest))
 
 pub returns-in-End-clause-totals : goal.returns-in-End-clause-totals
 returns-in-End-clause-totals c =
     let S = finished-end _ _ false c.args.series.limited c.requires.from_good refl c.in-End.x c.in-End.ensures in
-    c.write.ensures.totals ∙ ap (λ l. sets c.args.totals.now c.args.m (line_totals (take 1 l))) (sym S.rest)
+    rw c.done.ensures (c.write.ensures.totals ∙ ap (λ l. sets c.args.totals.now c.args.m (line_totals (take 1 l))) (sym S.rest))
 
 pub returns-in-Set-clause-answer : goal.returns-in-Set-clause-answer
 returns-in-Set-clause-answer c =
