@@ -20,7 +20,6 @@ impl Lists<'_> {
         requires j_bound { j < 65536 }
         requires lengths_reach { j < length self.now.lengths.now }
         requires totals_reach { j < length self.now.totals.now }
-        requires entry_light { Light (edge_of (entries self.now j)) }
         ensures { result ≡ edge_of (entries self.now j) }
     {
         let len = self.lengths[j];
@@ -37,7 +36,6 @@ impl Lists<'_> {
 
     // An edge, written as entry j. With no list of divisors its divisor is left out.
     pub(crate) fn write(&mut self, j: usize, x: Edge)
-        requires x_light { Light x }
         requires j_bound { j < 65536 }
         requires lengths_room { j < length self.old.lengths.now }
         requires totals_room { j < length self.old.totals.now }

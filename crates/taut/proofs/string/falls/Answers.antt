@@ -1,6 +1,6 @@
 use Rattle.std.proofs.Common.{◌∙◌, ap, sym, arith}
 use Rattle.taut.proofs.InputLaws.{valid, limited, minutes-upto}
-use Rattle.taut.proofs.FallLoop.{m-short, near-further, at-is-small, near-light, entry-light, near-is, near_small, far-small, rested, fell}
+use Rattle.taut.proofs.FallLoop.{m-short, near-further, at-is-small, near-is, near_small, far-small, rested, fell}
 use Rattle.taut.proofs.string.falls.Goals as goal
 
 pub entry-g-requires-clause-j_bound : goal.entry-g-requires-clause-j_bound
@@ -8,18 +8,6 @@ entry-g-requires-clause-j_bound g c =
     let x = c.args.input in
     let I = c.loop-d.invariant in
     omega (arith, m-short _ (valid x) _ _ (limited x) _ I.falling I.full, minutes-upto x)
-
-pub entry-g-requires-clause-entry_light : goal.entry-g-requires-clause-entry_light
-entry-g-requires-clause-entry_light g c =
-    let x = c.args.input in
-    let I = c.loop-d.invariant in
-    near-light _ (valid x) _ _ (limited x) _ I.falling I.full (minutes-upto x)
-
-pub level-near-requires : goal.level-near-requires
-level-near-requires g c =
-    let x = c.args.input in
-    let I = c.loop-d.invariant in
-    entry-light _ (valid x) _ _ (limited x) _ I.falling I.full c.entry-g.ensures (minutes-upto x)
 
 pub far-far-requires : goal.far-far-requires
 far-far-requires g c =
@@ -39,19 +27,6 @@ under-requires-clause-b_small g c =
     let I = c.loop-d.invariant in
     near_small _ (valid x) _ _ (limited x) _ I.falling I.full
     (near-is _ (valid x) _ _ (limited x) _ I.falling I.full c.entry-g.ensures c.level-near.ensures) (minutes-upto x)
-
-pub settle-requires-clause-near_small : goal.settle-requires-clause-near_small
-settle-requires-clause-near_small g c =
-    let x = c.args.input in
-    let I = c.loop-d.invariant in
-    near_small _ (valid x) _ _ (limited x) _ I.falling I.full
-    (near-is _ (valid x) _ _ (limited x) _ I.falling I.full c.entry-g.ensures c.level-near.ensures) (minutes-upto x)
-
-pub settle-requires-clause-far_small : goal.settle-requires-clause-far_small
-settle-requires-clause-far_small g c =
-    let x = c.args.input in
-    let I = c.loop-d.invariant in
-    far-small _ (valid x) _ _ (limited x) _ I.falling I.full c.far-far.ensures
 
 pub returns-then-not-under-clause-kept : goal.returns-then-not-under-clause-kept
 returns-then-not-under-clause-kept g c =

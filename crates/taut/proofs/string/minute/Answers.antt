@@ -35,14 +35,6 @@ returns-then-not-below-clause-kept c =
     stays _ (valid x) (limited x) _ _ c.requires.kept_before c.requires.k_in_bounds c.next-t.ensures c.below-falls.ensures c.below.ensures
     c.if-not-falls.true c.if-not-below.true c.more.ensures
 
-pub choose-v-requires-clause-a_small : goal.choose-v-requires-clause-a_small
-choose-v-requires-clause-a_small c =
-    let x = c.args.input in (seen _ (valid x) (limited x) _ _ c.requires.kept_before c.requires.k_in_bounds c.next-t.ensures).low
-
-pub choose-v-requires-clause-b_small : goal.choose-v-requires-clause-b_small
-choose-v-requires-clause-b_small c =
-    let x = c.args.input in (seen _ (valid x) (limited x) _ _ c.requires.kept_before c.requires.k_in_bounds c.next-t.ensures).high
-
 pub leave-requires-clause-leaving : goal.leave-requires-clause-leaving
 leave-requires-clause-leaving c =
     let x = c.args.input in

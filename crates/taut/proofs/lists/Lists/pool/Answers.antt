@@ -10,9 +10,6 @@ use Rattle.taut.proofs.StackLaws.{edges-written, divided-less}
 use Rattle.taut.proofs.lists.Lists.pool.Goals as goal
 use Rattle.taut.proofs.lists.Lists.pool.Goals.{else-loop-t-test, then-loop-t-test+then-steeper}
 
-pub entry-g-requires-clause-entry_light : goal.entry-g-requires-clause-entry_light
-entry-g-requires-clause-entry_light g c = last-light _ _ _ c.loop-t.invariant.pooling c.loop-t-test.true
-
 pub steeper-requires-clause-g_light : goal.steeper-requires-clause-g_light
 steeper-requires-clause-g_light g c = subst Light (sym c.entry-g.ensures) (last-light _ _ _ c.loop-t.invariant.pooling c.loop-t-test.true)
 
@@ -41,9 +38,6 @@ loop-t-preserved g c =
       pooling = pool-merge A σ c.args.m c.loop-t.invariant.pooling c.loop-t-test.true tested;
       divided = divided-less c.args.self.now.lengths.now c.args.self.now.divisors.now t x.n x.len c.loop-t.invariant.divided;
     })
-
-pub write-requires-clause-x_light : goal.write-requires-clause-x_light
-write-requires-clause-x_light g c = pool-light _ _ _ c.loop-t.invariant.pooling
 
 pub returns-clause-chain : goal.returns-clause-chain
 returns-clause-chain g c =
