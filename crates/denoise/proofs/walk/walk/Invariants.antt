@@ -6,15 +6,15 @@ use Rattle.denoise.proofs.WalkLoop.{Inside, Ending}
 use Rattle.denoise.proofs.walk.walk.Given as goal
 
 abbrev pub invariant-loop-next : goal.invariant-loop-next
-invariant-loop-next l = Inside l.series.samples.now l.series.smoothing l.running l.fn.from l.fn.lengths l.fn.totals l.budget l.lengths l.totals l.m l.spent l.r
+invariant-loop-next l = Inside l.fn.samples l.fn.smoothing l.running l.fn.from l.fn.lengths l.fn.totals l.budget l.lengths l.totals l.m l.spent l.r
 
 abbrev pub decreases-loop-next : goal.decreases-loop-next
-decreases-loop-next l = left (data_of l.series.samples.now l.series.smoothing) (state_of l.r)
+decreases-loop-next l = left (data_of l.fn.samples l.fn.smoothing) (state_of l.r)
 
 abbrev pub invariant-loop-r : goal.invariant-loop-r
 invariant-loop-r l =
-    Ending l.series.samples.now l.series.smoothing l.running l.fn.from l.fn.lengths l.fn.totals l.budget l.lengths l.totals l.m l.spent l.r
-    × (left (data_of l.series.samples.now l.series.smoothing) (state_of l.r) ≤ left (data_of l.series.samples.now l.series.smoothing) (state_of l.initial.r))
+    Ending l.fn.samples l.fn.smoothing l.running l.fn.from l.fn.lengths l.fn.totals l.budget l.lengths l.totals l.m l.spent l.r
+    × (left (data_of l.fn.samples l.fn.smoothing) (state_of l.r) ≤ left (data_of l.fn.samples l.fn.smoothing) (state_of l.initial.r))
 
 abbrev pub decreases-loop-r : goal.decreases-loop-r
-decreases-loop-r l = left (data_of l.series.samples.now l.series.smoothing) (state_of l.r)
+decreases-loop-r l = left (data_of l.fn.samples l.fn.smoothing) (state_of l.r)
