@@ -3,9 +3,6 @@ use mathlib.Core.Path.{◌∙◌}
 use Rattle.denoise.proofs.PortionLaws.{portion_fits, portion_of, portion_stored}
 use Rattle.denoise.proofs.inner.portion.Goals as goal
 
-pub walk-requires-clause-starts : goal.walk-requires-clause-starts
-walk-requires-clause-starts c = c.requires.stands.starts
-
 pub walk-requires-clause-fits : goal.walk-requires-clause-fits
 walk-requires-clause-fits c = portion_fits c.requires.lengths_128 c.requires.totals_128
 

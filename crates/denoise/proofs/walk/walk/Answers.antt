@@ -1,11 +1,11 @@
 -- `denoise::walk::walk`: each pass goes on by a minute, or writes a segment.
 use native.Mathlib.Omega.{arith}
-use mathlib.Core.Logic.{inl, inr, ⊎_elim}
+use mathlib.Core.Logic.{inl, inr}
 use Prim.Native.Nat.{◌<◌}
 use Rattle.optimality.specs.Walk.{left}
 use Rattle.denoise.specs.Variables.{data_of, state_of}
 use Rattle.denoise.proofs.WalkSteps.{known, ready}
-use Rattle.denoise.proofs.WalkLoop.{Ending, scanned_on, scanned_set, finished-set, finished-end, below, stops-2, looked, kept-first, inside-first, inside_on, turned, again, unspent, tight, room, ended, waited, stands}
+use Rattle.denoise.proofs.WalkLoop.{Ending, scanned_on, scanned_set, finished-set, finished-end, below, stops-2, kept-first, inside_on, turned, again, unspent, room, ended, waited, stands}
 use Rattle.denoise.proofs.walk.walk.Goals.{Joined-scan, in-On, in-Set+else-spent-budget, else-spent-budget-via-then-spent-budget+else-r-series-2, else-spent-budget-via-else-spent-budget}
 use Rattle.denoise.proofs.walk.walk.Goals as goal
 
@@ -14,9 +14,6 @@ pub returns-then-running : goal.returns-then-running
 returns-then-running c =
     let z = waited _ _ _ _ _ _ (kept-first _ _ c.args.running _ _ _ c.requires.starts.good) c.requires.limited c.requires.fits (omega arith) c.if-running.true (omega (arith, c.if-r-series.true)) c.done.ensures in
     record { answer = z.0; lengths = z.1.lengths_are; totals = z.1.totals_are }
-
-pub step_2-requires : goal.step_2-requires
-step_2-requires c = record { ready = ready _ _ c.requires.limited c.requires.starts.good; at_end = c.if-r-series.true; one_minute = c.requires.starts.one c.if-r-series.true }
 
 pub last-requires : goal.last-requires
 last-requires c =
@@ -35,30 +32,12 @@ returns-then-r-series c =
     record { answer = z.0; lengths = z.1.lengths_are; totals = z.1.totals_are }
 
 -- ---- steps 3 to 6
-pub loop-next-init : goal.loop-next-init
-loop-next-init c =
-    let G = c.requires.starts.good in
-    inside-first _ _ _ _ _ _ _ G (below _ _ c.args.running c.requires.limited G c.if-r-series.false)
-
-pub scan-requires : goal.scan-requires
-scan-requires c = record { good = c.loop-next.invariant.kept.good; k_in_bounds = c.loop-next.invariant.before }
-
 pub write-m-requires : goal.write-m-requires
 write-m-requires c =
     let I = c.loop-next.invariant in
     let E = scanned_set _ _ c.args.running c.requires.limited I.kept.good I.before {p = c.in-Set.x} {q = c.in-Set.next} c.in-Set.ensures in
     let r = room _ _ _ _ _ _ I.kept c.requires.limited c.requires.fits (omega (arith, I.counted.least, I.within)) in
     record { len_bound = omega (arith, E.short, c.requires.limited.few); lengths_room = r.0; totals_room = r.1 }
-
-pub looked_at-spent-requires : goal.looked_at-spent-requires
-looked_at-spent-requires c =
-    let l = looked _ _ c.args.running c.requires.limited c.loop-next.invariant.kept.good in
-    record { k0_le_k = l.0; k_bound = l.1 }
-
-pub overflow_add-spent : goal.overflow_add-spent
-overflow_add-spent c =
-    let I = c.loop-next.invariant in
-    omega (arith, I.counted.most, tight _ _ _ _ _ _ I.kept c.requires.limited, c.looked_at-spent.ensures, looked _ _ c.args.running c.requires.limited I.kept.good)
 
 pub returns-then-r-series-2 : goal.returns-then-r-series-2
 returns-then-r-series-2 c =
@@ -96,16 +75,6 @@ loop-r-init c = ((joined c).0, omega arith)
 pub loop-next-smaller : goal.loop-next-smaller
 loop-next-smaller c = omega (arith, c.loop-r.invariant.1, (joined (goal.at.loop-next-smaller c).Joined-scan).1)
 
-pub loop-next-preserved : goal.loop-next-preserved
-loop-next-preserved c =
-    let K = c.loop-r.invariant.0 in
-    record {
-      kept = K.kept;
-      counted = K.counted;
-      within = ⊎_elim (λ h. h) (λ h. absurd (omega (arith, h.0, c.loop-r-test.false))) K.within;
-      before = omega (arith, c.loop-r-test.false);
-    }
-
 pub returns-then-running-2 : goal.returns-then-running-2
 returns-then-running-2 c =
     let K = c.loop-r.invariant.0 in
@@ -113,27 +82,12 @@ returns-then-running-2 c =
     record { answer = z.0; lengths = z.1.lengths_are; totals = z.1.totals_are }
 
 -- ---- steps 8 to 10
-pub finish-requires : goal.finish-requires
-finish-requires c =
-    let G = c.loop-r.invariant.0.kept.good in
-    record { good = G; at_end = omega (arith, c.loop-r-test.true, (known _ _ c.requires.limited G).upto) }
-
 pub write-m-requires-in-Set-finish : goal.write-m-requires-in-Set-finish
 write-m-requires-in-Set-finish c =
     let I = c.loop-r.invariant.0 in
     let E = finished-set _ _ c.args.running c.requires.limited I.kept.good c.if-running-2.false c.in-Set-finish.x c.in-Set-finish.next c.in-Set-finish.ensures in
     let r = room _ _ _ _ _ _ I.kept c.requires.limited c.requires.fits I.room in
     record { len_bound = omega (arith, E.short, c.requires.limited.few); lengths_room = r.0; totals_room = r.1 }
-
-pub looked_at-spent-requires-in-Set-finish : goal.looked_at-spent-requires-in-Set-finish
-looked_at-spent-requires-in-Set-finish c =
-    let l = looked _ _ c.args.running c.requires.limited c.loop-r.invariant.0.kept.good in
-    record { k0_le_k = l.0; k_bound = l.1 }
-
-pub overflow_add-spent-in-Set-finish : goal.overflow_add-spent-in-Set-finish
-overflow_add-spent-in-Set-finish c =
-    let I = c.loop-r.invariant.0 in
-    omega (arith, I.counted.most, tight _ _ _ _ _ _ I.kept c.requires.limited, c.looked_at-spent-in-Set-finish.ensures, looked _ _ c.args.running c.requires.limited I.kept.good)
 
 pub last-requires-in-End : goal.last-requires-in-End
 last-requires-in-End c =
