@@ -8,7 +8,7 @@ use Rattle.taut.specs.declared.chain.Stack.{Stack}
 use Rattle.taut.specs.declared.chain.Fall.{Fall}
 use Rattle.taut.specs.declared.input.Input.{Input}
 use Rattle.taut.specs.declared.lists.Lists.{Lists}
-use Rattle.taut.proofs.InputLaws.{plain-weight, valid, limited, minutes-upto}
+use Rattle.taut.proofs.InputLaws.{plain-weight, minutes-upto}
 use Rattle.taut.proofs.StackLaws.{divided}
 use Rattle.taut.proofs.Closing as Closing
 use Rattle.taut.proofs.string.leave.Goals as goal
@@ -23,17 +23,17 @@ module _ (x : Input) (y : Lists) {low : Bool} {at v : Knot} {p : Stack} (Y : Lea
       Falling (data_of x) b (entries z) q
   turns z R e f g h k =
       let T = Y.falls.best.touch in
-      Closing.closed-fall (data_of x) (valid x) low y.lengths.now y.divisors.now y.totals.now at v p Y (omega (arith, short, R.lengths))
+      Closing.closed-fall x _ _ _ Y (omega (arith, short, R.lengths))
       (divided R short (λ none. plain-weight x none p.i v.k (omega (arith, T.from)) (ap (λ f. f.den) T.is))) (omega (arith, short, R.totals)) e f g h k
 
 pub close-q-requires-clause-at_small : goal.close-q-requires-clause-at_small
-close-q-requires-clause-at_small c = let x = c.args.input in Closing.at-is-small _ (valid x) _ _ _ _ _ _ _ c.requires.leaving (limited x)
+close-q-requires-clause-at_small c = let x = c.args.input in Closing.at-is-small x _ _ _ c.requires.leaving
 
 pub close-q-requires-clause-v_small : goal.close-q-requires-clause-v_small
-close-q-requires-clause-v_small c = let x = c.args.input in Closing.v-is-small _ (valid x) _ _ _ _ _ _ _ c.requires.leaving (limited x)
+close-q-requires-clause-v_small c = let x = c.args.input in Closing.v-is-small x _ _ _ c.requires.leaving
 
 pub close-q-requires-clause-k_bound : goal.close-q-requires-clause-k_bound
-close-q-requires-clause-k_bound c = let x = c.args.input in omega (arith, Closing.short _ (valid x) _ _ _ _ _ _ _ c.requires.leaving, minutes-upto x)
+close-q-requires-clause-k_bound c = let x = c.args.input in omega (arith, Closing.short x _ _ _ c.requires.leaving, minutes-upto x)
 
 pub close-q-requires-clause-m_bound : goal.close-q-requires-clause-m_bound
 close-q-requires-clause-m_bound c = omega (arith, short c.args.input c.args.lists.now c.requires.leaving, minutes-upto c.args.input)

@@ -1,5 +1,4 @@
 use Rattle.std.proofs.Common.{◌∙◌, ap, sym, subst, arith, ◌<◌, ◌-◌, length, add-one}
-use Rattle.optimality.specs.TautString.{pool}
 use Rattle.taut.specs.Slopes.{side_of, segment_of}
 use Rattle.taut.specs.Stack.{entries, edges, LightPool}
 use Rattle.taut.proofs.InputLaws.{plain-unit, valid, limited, minutes-upto}
@@ -35,11 +34,10 @@ pool-t-requires-clause-chain_light g c =
 
 pub loop-e-preserved : goal.loop-e-preserved
 loop-e-preserved g c =
-    let σ = side_of g.S.Side.low in
     let E = c.pool-t.ensures in
-    let e = E.chain ∙ ap (λ x. pool σ (edges (entries c.loop-e.self) c.args.p.m (c.loop-e.t - c.args.p.m)) (segment_of x)) c.unit.ensures in
     record {
-      filling = rw (add-one c.loop-e.e) (fill-next _ _ _ _ _ c.loop-e.invariant.filling (valid c.args.input) c.loop-e-test.true c.requires.h_in_bounds E.top_above e E.below_kept);
+      filling = rw (add-one c.loop-e.e)
+          (fill-next _ _ _ _ _ c.loop-e.invariant.filling (valid c.args.input) c.loop-e-test.true c.requires.h_in_bounds (ap segment_of c.unit.ensures) E.top_above E.chain E.below_kept);
       same = lists-again c.loop-e.invariant.same E.same;
     }
 

@@ -1,11 +1,8 @@
-use Rattle.std.proofs.Common.{◌≡◌, ◌∙◌, ap, sym, subst, arith, false, ◌-◌}
-use Rattle.optimality.specs.Tube.{under}
-use Rattle.optimality.specs.TubePath.{level}
-use Rattle.optimality.specs.TautString.{merge}
-use Rattle.taut.specs.Slopes.{Light, side_of, segment_of, edge_of, steeper_of}
+use Rattle.std.proofs.Common.{◌∙◌, sym, subst, arith, ◌-◌}
+use Rattle.taut.specs.Slopes.{Light, side_of, segment_of}
 use Rattle.taut.specs.Stack.{entries, Divided}
 use Rattle.taut.specs.declared.slopes.Edge.{Edge}
-use Rattle.taut.proofs.PoolLoop.{Pooling, pool-light, pool-none, last-light, pool_steep, pool-merge}
+use Rattle.taut.proofs.PoolLoop.{Pooling, tested, merge_is, pool-light, pool-none, last-light, pool_steep, pool-merge}
 use Rattle.taut.proofs.StackLaws.{edges-written, divided-less}
 use Rattle.taut.proofs.lists.Lists.pool.Goals as goal
 use Rattle.taut.proofs.lists.Lists.pool.Goals.{else-loop-t-test, then-loop-t-test+then-steeper}
@@ -28,14 +25,12 @@ loop-t-preserved g c =
     let A = entries c.args.self.now in
     let t = c.loop-t.t in
     let x = c.loop-t.x in
-    let tested : under σ (level (segment_of x)) (level (A (t - 1))) ≡ false =
-    sym (ap (λ e. steeper_of g.S.Side.low e x) c.entry-g.ensures) ∙ sym c.steeper.ensures ∙ c.if-steeper.false in
-    let e = c.merge-x.ensures ∙ ap (λ e. edge_of (merge (segment_of e) (segment_of x))) c.entry-g.ensures in
     subst (λ (y : Edge). record {
       pooling : Pooling A σ c.args.m c.args.top (segment_of c.args.edge) (t - 1) (segment_of y);
       divided : Divided (t - 1) c.args.self.now.divisors.now y.n y.len;
-    }) (sym e) (record {
-      pooling = pool-merge A σ c.args.m c.loop-t.invariant.pooling c.loop-t-test.true tested;
+    }) (sym (merge_is c.entry-g.ensures x c.merge-x.ensures)) (record {
+      pooling = pool-merge A σ c.args.m c.loop-t.invariant.pooling c.loop-t-test.true
+          (tested c.entry-g.ensures x g.S.Side.low c.steeper.ensures c.if-steeper.false);
       divided = divided-less c.args.self.now.lengths.now c.args.self.now.divisors.now t x.n x.len c.loop-t.invariant.divided;
     })
 
@@ -50,5 +45,5 @@ returns-clause-chain g c =
     ∙ (elim c.loop-t-test.branch [
       | else-loop-t-test w ↦ pool-none (entries y) (side_of low) c.args.m P w.loop-t-test.false
       | then-loop-t-test+then-steeper w ↦ pool_steep (entries y) (side_of low) c.args.m P w.loop-t-test.true
-          (sym (ap (λ e. steeper_of low e x) w.entry-g.ensures) ∙ sym w.steeper.ensures ∙ w.if-steeper.true)
+          (tested w.entry-g.ensures x low w.steeper.ensures w.if-steeper.true)
     ])
