@@ -21,7 +21,7 @@ invariant_of-draw c = record { limited = turned-limited _ _ _ c.requires.countab
 
 -- ---- where the line is counted
 pub overflow_sub-counts : goal.overflow_sub-counts
-overflow_sub-counts c = turned-some _ _ _ c.requires.countable c.loop.invariant c.draw-m.result c.draw-m.ensures.answer
+overflow_sub-counts c = omega (arith, turned-some _ _ _ c.requires.countable c.loop.invariant c.draw-m.result c.draw-m.ensures.answer)
 
 pub bounds-counts-m : goal.bounds-counts-m
 bounds-counts-m c = turned-entry _ _ _ c.requires.countable c.loop.invariant c.draw-m.result c.draw-m.ensures.answer
