@@ -1,12 +1,12 @@
 -- `sweep::forward::forward`: a segment that is closed is written, and the next one begins behind it.
-use Rattle.std.proofs.Common.{arith, ◌≡◌, refl, ap, set, sym, ◌∙◌, subst, ℕ, ◌≤◌, pos, neg_ℤ, ◌-ℤ◌, w64, to_z, of_z}
+use Rattle.std.proofs.Common.{arith, ◌≡◌, refl, sym, ◌∙◌, subst, ℕ, ◌≤◌, pos, neg_ℤ, ◌-ℤ◌, w64, to_z, of_z}
 use lib.IntN.{+ℤ_idl}
 use Rattle.integers.specs.Order.{abs_neg}
 use Rattle.integers.specs.Bounds.{Upto, Atmost, cleaning, fit, clean}
 use Rattle.denoise.proofs.WalkSteps.{begin-good}
 use Rattle.denoise.proofs.WalkLoop.{kept-first}
 use Rattle.sweep.specs.Forward.{Arrives}
-use Rattle.sweep.proofs.StretchLaws.{first-held, total-read}
+use Rattle.sweep.proofs.StretchLaws.{first-held}
 use Rattle.sweep.proofs.ForwardLaws.{none_passed, arrives, turned}
 use Rattle.sweep.proofs.forward.forward.Goals as goal
 
@@ -45,21 +45,21 @@ pub loop-spent-preserved-in-Fall : goal.loop-spent-preserved-in-Fall
 loop-spent-preserved-in-Fall c =
     let W = c.args.series.limited in
     let e = c.in-Fall.ensures in
-    let s = c.append-m.ensures in
-    turned W c.loop-spent.invariant c.in-Fall.c e.0 e.1.0 c.in-Fall.c.min _ e.1.1 (up W.smooth) refl c.loop-spent-test.true (up_small _)
-    (s.answer, (s.lengths, s.totals ∙ ap (set c.loop-spent.totals c.loop-spent.m) (total-read e.0.held.good.small.min.total)))
+    let s = c.write-m.ensures in
+    turned W c.loop-spent.invariant c.in-Fall.c e.0 e.1.0 c.in-Fall.c.min _ e.1.1 (up W.smooth) c.next-o.ensures c.loop-spent-test.true (up_small _)
+    (s.answer, (s.lengths, s.totals))
 
 -- ---- the line rises
-pub overflow_sub-o : goal.overflow_sub-o
-overflow_sub-o c = let l = limit c.args.series.limited.smooth in fit (search cleaning depth 12) tt
+pub overflow_sub-series : goal.overflow_sub-series
+overflow_sub-series c = let l = limit c.args.series.limited.smooth in fit (search cleaning depth 12) tt
 
 pub loop-spent-preserved : goal.loop-spent-preserved
 loop-spent-preserved c =
     let W = c.args.series.limited in
     let e = c.in-Rise.ensures in
-    let s = c.append-m-in-Rise.ensures in
-    turned W c.loop-spent.invariant c.in-Rise.c e.0 e.1.0 c.in-Rise.c.max _ e.1.1 (down W.smooth) refl c.loop-spent-test.true (down-small _)
-    (s.answer, (s.lengths, s.totals ∙ ap (set c.loop-spent.totals c.loop-spent.m) (total-read e.0.held.good.small.max.total)))
+    let s = c.write-m-in-Rise.ensures in
+    turned W c.loop-spent.invariant c.in-Rise.c e.0 e.1.0 c.in-Rise.c.max _ e.1.1 (down W.smooth) c.next-o-in-Rise.ensures c.loop-spent-test.true (down-small _)
+    (s.answer, (s.lengths, s.totals))
 
 -- ---- the last minute
 pub returns-in-End-clause-answer : goal.returns-in-End-clause-answer
