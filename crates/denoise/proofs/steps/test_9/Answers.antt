@@ -1,0 +1,17 @@
+-- `denoise::steps::test_9`: as printed.
+use mathlib.Core.Path.{sym, ap, ◌∙◌}
+use lib.IntN.{◌*ℤ◌, +ℤ_idr}
+use lib.Signed.{lt_z}
+use Rattle.optimality.specs.TenSteps.{if9}
+use Rattle.optimality.proofs.TenStepsLaws.{test9-is}
+use Rattle.denoise.specs.Variables.{state_of}
+use Rattle.denoise.proofs.VariableLaws.{values_are}
+use Rattle.denoise.proofs.steps.test_9.Goals as goal
+
+pub returns : goal.returns
+returns c L ys =
+    let r = c.args.r in
+    c.below.ensures
+    ∙ ap (λ t. lt_z (r.mean.n *ℤ r.vmax.total) (r.vmax.n *ℤ t)) (sym (+ℤ_idr r.mean.total))
+    ∙ sym (test9-is L ys (state_of r) c.requires.fair)
+    ∙ ap (if9 L ys) (values_are r c.requires.first)

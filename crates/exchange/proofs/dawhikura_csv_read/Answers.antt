@@ -1,0 +1,16 @@
+-- `exchange::dawhikura_csv_read`: the place of a refusal is near.
+use mathlib.Core.Path.{ap, ◌∙◌}
+use mir.Syntax.{w64}
+use mir.Val.{SFits}
+use mir.Facts.{to_z-of_z}
+use lib.ListN.{length}
+use Rattle.delay_csv.proofs.PlaceLaws.{read-placed}
+use Rattle.console.specs.Code.{code, told}
+use Rattle.console.proofs.ToldPlaces.{told_near}
+use Rattle.exchange.proofs.dawhikura_csv_read.Goals as goal
+
+pub returns-clause-answer : goal.returns-clause-answer
+returns-clause-answer c =
+    let a = c.args in
+    let r : SFits w64 c.code.result = record { sfits = c.code.type_inv } in
+    to_z-of_z r ∙ c.code.ensures.answer ∙ ap (λ k. code (told k)) c.read.ensures.answer ∙ ap code (told_near (read-placed a.text.now (length a.samples.now)))
